@@ -1,0 +1,4 @@
+pub mod Bounds
+pub mod ByteKinds
+pub mod Cuts
+pub mod Kept

@@ -1,0 +1,8 @@
+use mathlib.Core.Bool.{true}
+use mathlib.Core.Path.{_≡_}
+use lib.ListN.{take}
+use Rattle.listing.specs.Limits.{all, thread-used}
+use Rattle.listing.proofs.draft.Draft.check_threads_used.Given as given
+
+abbrev pub Inv-loop-thread : given.InvT-loop-thread
+Inv-loop-thread l = all thread-used (take (l .thread) (l .self .threads)) ≡ true

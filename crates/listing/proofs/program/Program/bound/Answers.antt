@@ -1,0 +1,6 @@
+use mathlib.Core.Path.{refl}
+use Rattle.listing.proofs.Bounds.{kept}
+use Rattle.listing.proofs.program.Program.bound.Needs as need
+
+pub returns : need.returns
+returns c = record { value = refl; limit = kept (c .args .self .now) .bound-high }

@@ -1,0 +1,4 @@
+pub mod Judged
+pub mod Masks
+pub mod Newest
+pub mod Shifts
