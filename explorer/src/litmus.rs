@@ -1,6 +1,7 @@
 //! Small programs, most of them from the literature on weak memory, with the answer that it gives for machines whose
 //! writes wait in one queue for each thread (TSO): of a thread's instructions only a store and a later load can change
-//! places.
+//! places. Dekker's and Peterson's entry and the fast mutex are cut down to fit the console's rows; their answers are
+//! argued in their listings.
 
 use std::ops::RangeInclusive;
 
