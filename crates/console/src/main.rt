@@ -1,4 +1,5 @@
 // Reads a listing from standard input, and prints where the fences go or why there is no answer.
+#![tactic(auto)]
 mod answer;
 
 use answer::answer;

@@ -1,4 +1,5 @@
 // Reads a listing from standard input, and prints how often a search over the buffered machine explores it.
+#![tactic(auto)]
 mod counting;
 
 use counting::Counting;

@@ -2,10 +2,10 @@
 --   all f xs          f is true of each of xs
 --   total ts          the number of instructions of these threads
 --   bound_fits b      a bound that has been read is 1 to 4
---   thread_fits t     a thread's code has at most 16 instructions, their values fit, and unused room, up to 16, holds `Fence`
+--   thread_fits t     a thread's code has at most 16 instructions, their values fit, and unused room holds `Fence`
 --   thread_used t     it has an instruction
 --   thread_unused t   it has none
---   line_fits l       a fault line has at most six conditions, their values fit, and unused room, up to six, holds `At(0, 0)`
+--   line_fits l       a fault line has at most six conditions, their values fit, and unused room holds `At(0, 0)`
 --   line_used l       it has a condition
 --   line_unused l     it has none
 --   jump_within n i   a jump's target is at most n
@@ -15,9 +15,8 @@
 --   line_within count ts l        so for each condition of a fault line
 --   threads_within    what holds of the count of threads and of the threads
 --   faults_within     what holds of the count of fault lines and of these, over those threads
---   parts_room, lines_room   the room that there is
 --   within_limits     what holds of a program's bound, its count of threads, its threads, and so of its fault lines
-use Rattle.std.specs.Prelude.{ℕ, ◌+◌, Bool, true, false, ◌&&◌, List, [], ◌∷◌, length, take, drop, Some, None, Option, ◌==◌, nat_eq, nat_le, nat_lt, slice_index_or}
+use Rattle.std.specs.Prelude.{ℕ, ◌+◌, Bool, true, false, ◌&&◌, List, [], ◌∷◌, take, drop, Some, None, Option, ◌==◌, nat_le, nat_lt, slice_index_or}
 use Rattle.listing.specs.declared.code.Condition.{Condition}
 use Rattle.listing.specs.declared.code.Condition.TheVariants as condition
 use Rattle.listing.specs.declared.code.Instruction.{Instruction}
@@ -58,7 +57,7 @@ is_start (condition.Holds t r d) = false
 is_start (condition.Memory v d) = false
 
 abbrev pub thread_fits : ThreadCode → Bool
-thread_fits t = nat_le t.length 16 && (all instruction_fits t.instructions && (all is_fence (drop t.length t.instructions) && length t.instructions == 16))
+thread_fits t = nat_le t.length 16 && (all instruction_fits t.instructions && all is_fence (drop t.length t.instructions))
 
 abbrev pub thread_used : ThreadCode → Bool
 thread_used t = nat_le 1 t.length
@@ -67,7 +66,7 @@ abbrev pub thread_unused : ThreadCode → Bool
 thread_unused t = t.length == 0
 
 abbrev pub line_fits : FaultLine → Bool
-line_fits l = nat_le l.length 6 && (all condition_fits l.conditions && (all is_start (drop l.length l.conditions) && length l.conditions == 6))
+line_fits l = nat_le l.length 6 && (all condition_fits l.conditions && all is_start (drop l.length l.conditions))
 
 abbrev pub line_used : FaultLine → Bool
 line_used l = nat_le 1 l.length
@@ -108,14 +107,6 @@ abbrev pub faults_within : ℕ → List ThreadCode → ℕ → List FaultLine �
 faults_within thread_count threads count faults =
     between 1 8 count && (all line_fits faults && (all line_used (take count faults) && (all line_unused (drop count faults) && all (line_within thread_count threads) faults)))
 
--- the room that there is for threads and for fault lines, and for the lines that they stand on
-abbrev pub parts_room : List ThreadCode → List FaultLine → Bool
-parts_room threads faults = length threads == 4 && length faults == 8
-
-abbrev pub lines_room : List ℕ → List (List ℕ) → List ℕ → Bool
-lines_room thread_lines instruction_lines fault_lines =
-    (length thread_lines == 4) && (length fault_lines == 8 && (length instruction_lines == 4 && all (λ ns. nat_eq (length ns) 16) instruction_lines))
-
 unfoldable pub within_limits : ℕ → ℕ → List ThreadCode → ℕ → List FaultLine → Bool
 within_limits bound thread_count threads fault_count faults =
-    between 1 4 bound && (threads_within thread_count threads && (faults_within thread_count threads fault_count faults && parts_room threads faults))
+    between 1 4 bound && (threads_within thread_count threads && faults_within thread_count threads fault_count faults)

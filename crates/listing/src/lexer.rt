@@ -1,10 +1,9 @@
 // From the bytes of a text to its lines, and from a line to its words and numbers.
-ghost use Rattle.std.specs.Prelude.{◌≡◌, ◌<◌, ◌≤◌, true, false, [], length, take, drop, MatchOption, MatchResult, OnSome};
+ghost use Rattle.std.specs.Prelude.{◌≡◌, ◌<◌, ◌≤◌, true, false, [], length, take, drop, MatchOption, MatchResult};
 ghost use Rattle.listing.specs.declared.refusal.Reason.TheVariants.{ByteNotPermitted};
-ghost use Rattle.listing.specs.Reading.{refusal};
-ghost use Rattle.listing.specs.Taking.{Comes, left, size};
+ghost use Rattle.listing.specs.Lines.{Refused};
 ghost use Rattle.listing.specs.Limits.{all};
-ghost use Rattle.listing.specs.Words.{Tells, content_of, kind, line_of, onward, parts, past_spaces, permitted, rest_of, upto};
+ghost use Rattle.listing.specs.Words.{Tells, after_word, content_of, kind, line_of, next_word, onward, parts, past_spaces, permitted, rest_of, upto};
 
 use crate::refusal::{Reason, Refusal};
 
@@ -59,7 +58,7 @@ pub fn first_line(text: &[u8]) -> (&[u8], &[u8])
 
 // The words of a line, up to its comment.
 pub fn words_of(bytes: &[u8], line: u16) -> Result<Words<'_>, Refusal>
-    ensures { MatchResult result (λ w. (w.line ≡ line) × ((w.rest.now ≡ content_of bytes.now) × (all permitted (content_of bytes.now) ≡ true))) (λ e. (e ≡ refusal ByteNotPermitted line) × (all permitted (content_of bytes.now) ≡ false)) }
+    ensures { MatchResult result (λ w. (w.line ≡ line) × ((w.rest.now ≡ content_of bytes.now) × (all permitted (content_of bytes.now) ≡ true))) (λ e. Refused ByteNotPermitted line e × (all permitted (content_of bytes.now) ≡ false)) }
 {
     for (i, byte) in bytes.iter().enumerate() {
         match kind_of(*byte) {
@@ -119,8 +118,9 @@ impl<'a> Words<'a> {
     // Takes the first of the words, if any is left.
     pub fn next(&mut self) -> Option<Token<'a>>
         ensures line { self.new.line ≡ self.old.line }
-        ensures word { MatchOption result (left self.old ≡ []) (λ t. Comes t (left self.old) (left self.new) self.old.line) }
-        ensures shorter { OnSome result (size self.new < size self.old) }
+        ensures word { MatchOption result (next_word self.old.rest.now ≡ []) (λ t. Tells t (next_word self.old.rest.now) self.old.line) }
+        ensures rest { self.new.rest.now ≡ after_word self.old.rest.now }
+        ensures shorter { MatchOption result (length self.new.rest.now ≤ length self.old.rest.now) (λ _. length self.new.rest.now < length self.old.rest.now) }
     {
         let bytes = skip_spaces(self.rest);
         let (word, rest) = bytes.split_at(word_length(bytes));

@@ -1,10 +1,10 @@
 // From the bytes of a listing to a program within its limits, or to a refusal.
+#![tactic(auto)]
+
 pub mod code;
-mod draft;
-pub mod laws;
-mod lexer;
-mod lines;
+pub mod draft;
+pub mod lexer;
+pub mod lines;
 pub mod program;
 pub mod reader;
 pub mod refusal;
-mod written;

@@ -1,22 +1,52 @@
-// The words of a line, taken one by one by the form that its first word begins.
-ghost use Rattle.std.specs.Prelude.{◌≡◌, ℕ, ◌+◌, ◌<◌, true, [], ◌∷◌, ◌++◌, IfOk, Some, MatchResult};
-ghost use Rattle.listing.specs.declared.refusal.Reason.TheVariants.{NoForm};
-ghost use Rattle.listing.specs.Code.{conditions_of};
-ghost use Rattle.listing.specs.Forms.{fault, number, operand as operand-says, register as register-says, variable as variable-says};
+// The forms of a line: first its words, with its numbers still as they are written, and then its values.
+ghost use Rattle.std.specs.Prelude.{◌≡◌, ◌+◌, ◌<◌, ◌≤◌, true, IfSome, IfErr, MatchResult};
+ghost use Rattle.listing.specs.declared.refusal.Reason.TheVariants.{NoForm, NumberOutOfRange};
+ghost use Rattle.listing.specs.Names.{decimal, NamesVariable, NamesRegister, NamesNumber, NamesOperand, operand_of, instruction_of, condition_of};
+ghost use Rattle.listing.specs.Values.{operand_fits, instruction_fits, condition_fits};
 ghost use Rattle.listing.specs.Limits.{line_fits, line_used};
-ghost use Rattle.listing.specs.Names.{variable_of, register_of};
-ghost use Rattle.listing.specs.Reading.{refusal, some, told};
-ghost use Rattle.listing.specs.Taking.{Begins, Operands, Whole, mnemonic_word, Took, TookCondition, fitted, left, number_read, operand_read};
-ghost use Rattle.listing.specs.Values.{condition_fits};
+ghost use Rattle.listing.specs.Lines.{Declined, Refused, Took, TookSome, stands_on};
 
-use crate::code::{Condition, FaultLine, Register, Variable};
+use crate::code::{Condition, FaultLine, Instruction, Operand, Register, Variable};
 use crate::lexer::{Token, Words};
 use crate::refusal::{Reason, Refusal};
-use crate::written::{WrittenCondition, WrittenInstruction, WrittenOperand, condition};
-use limits::room_for_condition;
 
-pub fn no_form(line: u16) -> Refusal
-    ensures { result ≡ refusal NoForm line }
+#[derive(Clone, Copy)]
+pub enum WrittenOperand<'a> {
+    Digits(&'a [u8]),
+    Register(Register),
+}
+
+#[derive(Clone, Copy)]
+pub enum WrittenInstruction<'a> {
+    Store(Variable, WrittenOperand<'a>),
+    Load(Register, Variable),
+    Set(Register, WrittenOperand<'a>),
+    Add(Register, WrittenOperand<'a>),
+    Cas(Register, Variable, WrittenOperand<'a>, WrittenOperand<'a>),
+    Fence,
+    Jump(&'a [u8]),
+    JumpIfEqual(Register, WrittenOperand<'a>, &'a [u8]),
+    JumpUnlessEqual(Register, WrittenOperand<'a>, &'a [u8]),
+}
+
+#[derive(Clone, Copy)]
+pub enum WrittenCondition<'a> {
+    At(&'a [u8], &'a [u8]),
+    Holds(&'a [u8], Register, &'a [u8]),
+    Memory(Variable, &'a [u8]),
+}
+
+// What a line with words is; of a fault line, the words are its conditions.
+#[derive(Clone, Copy)]
+pub enum Line<'a> {
+    Bound(&'a [u8]),
+    Thread,
+    Fault(Words<'a>),
+    Instruction(WrittenInstruction<'a>),
+}
+
+fn no_form(line: u16) -> Refusal
+    ensures { Refused NoForm line result }
 {
     Refusal {
         reason: Reason::NoForm,
@@ -24,39 +54,8 @@ pub fn no_form(line: u16) -> Refusal
     }
 }
 
-// The first word of an instruction.
-#[derive(Clone, Copy)]
-enum Mnemonic {
-    Store,
-    Load,
-    Set,
-    Add,
-    Cas,
-    Fence,
-    Jump,
-    JumpIfEqual,
-    JumpUnlessEqual,
-}
-
-fn mnemonic_named(word: &[u8], line: u16) -> Result<Mnemonic, Refusal>
-    ensures { Begins word.now line result }
-{
-    match word {
-        b"store" => Ok(Mnemonic::Store),
-        b"load" => Ok(Mnemonic::Load),
-        b"set" => Ok(Mnemonic::Set),
-        b"add" => Ok(Mnemonic::Add),
-        b"cas" => Ok(Mnemonic::Cas),
-        b"fence" => Ok(Mnemonic::Fence),
-        b"jump" => Ok(Mnemonic::Jump),
-        b"jeq" => Ok(Mnemonic::JumpIfEqual),
-        b"jne" => Ok(Mnemonic::JumpUnlessEqual),
-        _ => Err(no_form(line)),
-    }
-}
-
 fn variable_named(word: &[u8]) -> Option<Variable>
-    ensures { result ≡ variable_of word.now }
+    ensures { IfSome result (NamesVariable word.now) }
 {
     match word {
         b"a" => Some(Variable::A),
@@ -72,7 +71,7 @@ fn variable_named(word: &[u8]) -> Option<Variable>
 }
 
 fn register_named(word: &[u8]) -> Option<Register>
-    ensures { result ≡ register_of word.now }
+    ensures { IfSome result (NamesRegister word.now) }
 {
     match word {
         [b'r', b'0'] => Some(Register::R0),
@@ -85,7 +84,7 @@ fn register_named(word: &[u8]) -> Option<Register>
 
 impl<'a> Words<'a> {
     fn variable(&mut self) -> Result<Variable, Refusal>
-        ensures { Took variable-says Some self.old self.new result }
+        ensures { Took NamesVariable self.old self.new result }
     {
         let Some(Token::Word { bytes, .. }) = self.next() else {
             return Err(no_form(self.line));
@@ -97,7 +96,7 @@ impl<'a> Words<'a> {
     }
 
     fn register(&mut self) -> Result<Register, Refusal>
-        ensures { Took register-says Some self.old self.new result }
+        ensures { Took NamesRegister self.old self.new result }
     {
         let Some(Token::Word { bytes, .. }) = self.next() else {
             return Err(no_form(self.line));
@@ -108,8 +107,8 @@ impl<'a> Words<'a> {
         Ok(register)
     }
 
-    pub fn digits(&mut self) -> Result<&'a [u8], Refusal>
-        ensures { (low high : ℕ) → Took (number low high) (number_read low high) self.old self.new result }
+    fn digits(&mut self) -> Result<&'a [u8], Refusal>
+        ensures { Took NamesNumber self.old self.new result }
     {
         let Some(Token::Number { bytes, .. }) = self.next() else {
             return Err(no_form(self.line));
@@ -118,54 +117,51 @@ impl<'a> Words<'a> {
     }
 
     fn operand(&mut self) -> Result<WrittenOperand<'a>, Refusal>
-        ensures { Took operand-says operand_read self.old self.new result }
+        ensures { Took NamesOperand self.old self.new result }
     {
-        let Some(first) = self.next() else {
+        let bytes = match self.next() {
+            Some(Token::Number { bytes, .. }) => return Ok(WrittenOperand::Digits(bytes)),
+            Some(Token::Word { bytes, .. }) => bytes,
+            None => return Err(no_form(self.line)),
+        };
+        let Some(register) = register_named(bytes) else {
             return Err(no_form(self.line));
         };
-        match first {
-            Token::Number { bytes, .. } => Ok(WrittenOperand::Digits(bytes)),
-            Token::Word { bytes, .. } => {
-                let Some(register) = register_named(bytes) else {
-                    return Err(no_form(self.line));
-                };
-                Ok(WrittenOperand::Register(register))
-            }
-        }
+        Ok(WrittenOperand::Register(register))
     }
 
-    // The words after an instruction's first.
-    fn operands(&mut self, mnemonic: Mnemonic) -> Result<WrittenInstruction<'a>, Refusal>
-        ensures { Operands (mnemonic_word mnemonic) self.old self.new result }
+    fn instruction(&mut self, mnemonic: &[u8]) -> Result<WrittenInstruction<'a>, Refusal>
+        ensures { MatchResult result (λ _. self.new.line ≡ self.old.line) (Refused NoForm self.old.line) }
     {
         match mnemonic {
-            Mnemonic::Store => Ok(WrittenInstruction::Store(self.variable()?, self.operand()?)),
-            Mnemonic::Load => Ok(WrittenInstruction::Load(self.register()?, self.variable()?)),
-            Mnemonic::Set => Ok(WrittenInstruction::Set(self.register()?, self.operand()?)),
-            Mnemonic::Add => Ok(WrittenInstruction::Add(self.register()?, self.operand()?)),
-            Mnemonic::Cas => Ok(WrittenInstruction::Cas(
+            b"store" => Ok(WrittenInstruction::Store(self.variable()?, self.operand()?)),
+            b"load" => Ok(WrittenInstruction::Load(self.register()?, self.variable()?)),
+            b"set" => Ok(WrittenInstruction::Set(self.register()?, self.operand()?)),
+            b"add" => Ok(WrittenInstruction::Add(self.register()?, self.operand()?)),
+            b"cas" => Ok(WrittenInstruction::Cas(
                 self.register()?,
                 self.variable()?,
                 self.operand()?,
                 self.operand()?,
             )),
-            Mnemonic::Fence => Ok(WrittenInstruction::Fence),
-            Mnemonic::Jump => Ok(WrittenInstruction::Jump(self.digits()?)),
-            Mnemonic::JumpIfEqual => Ok(WrittenInstruction::JumpIfEqual(
+            b"fence" => Ok(WrittenInstruction::Fence),
+            b"jump" => Ok(WrittenInstruction::Jump(self.digits()?)),
+            b"jeq" => Ok(WrittenInstruction::JumpIfEqual(
                 self.register()?,
                 self.operand()?,
                 self.digits()?,
             )),
-            Mnemonic::JumpUnlessEqual => Ok(WrittenInstruction::JumpUnlessEqual(
+            b"jne" => Ok(WrittenInstruction::JumpUnlessEqual(
                 self.register()?,
                 self.operand()?,
                 self.digits()?,
             )),
+            _ => Err(no_form(self.line)),
         }
     }
 
     fn condition(&mut self) -> Result<Option<WrittenCondition<'a>>, Refusal>
-        ensures { TookCondition self.old self.new result }
+        ensures { TookSome self.old self.new result }
     {
         let Some(first) = self.next() else {
             return Ok(None);
@@ -185,9 +181,19 @@ impl<'a> Words<'a> {
         }
     }
 
-    // One word too many makes no form.
-    pub fn end(&mut self) -> Result<(), Refusal>
-        ensures { MatchResult result (λ _. left self.old ≡ []) (λ e. (e ≡ refusal NoForm self.old.line) × some (left self.old) ≡ true) }
+    fn conditions(mut self) -> Result<(), Refusal>
+        ensures { IfErr result (Refused NoForm self.entry.line) }
+    {
+        let line = self.line;
+        let Some(_) = self.condition()? else {
+            return Err(no_form(line));
+        };
+        while let Some(_) = self.condition()? {}
+        Ok(())
+    }
+
+    fn end(&mut self) -> Result<(), Refusal>
+        ensures { IfErr result (Refused NoForm self.old.line) }
     {
         let None = self.next() else {
             return Err(no_form(self.line));
@@ -195,14 +201,118 @@ impl<'a> Words<'a> {
         Ok(())
     }
 
-    // An instruction whose first word is given.
-    pub fn instruction(mut self, first: &[u8]) -> Result<WrittenInstruction<'a>, Refusal>
-        ensures { Whole first.now self.entry result }
+    // The form of a line by its words; its numbers may be any.
+    pub fn form(mut self, first: Token<'a>) -> Result<Line<'a>, Refusal>
+        ensures { MatchResult result (stands_on self.entry.line) (Refused NoForm self.entry.line) }
     {
-        let mnemonic = mnemonic_named(first, self.line)?;
-        let written = self.operands(mnemonic)?;
+        let Token::Word { bytes, .. } = first else {
+            return Err(no_form(self.line));
+        };
+        let line = match bytes {
+            b"bound" => Line::Bound(self.digits()?),
+            b"thread" => Line::Thread,
+            b"fault" => {
+                self.conditions()?;
+                return Ok(Line::Fault(self));
+            }
+            mnemonic => Line::Instruction(self.instruction(mnemonic)?),
+        };
         self.end()?;
-        Ok(written)
+        Ok(line)
+    }
+}
+
+// The value of a number of at most two digits, if it lies from low to high.
+fn within(low: u8, high: u8, digits: &[u8]) -> Option<u8>
+    ensures { IfSome result (λ n. (n ≡ decimal digits.now) × ((low ≤ n) × (n ≤ high))) }
+{
+    let n = match digits {
+        [d @ b'0'..=b'9'] => *d - b'0',
+        [t @ b'0'..=b'9', d @ b'0'..=b'9'] => (*t - b'0') * 10 + (*d - b'0'),
+        _ => return None,
+    };
+    if low <= n && n <= high { Some(n) } else { None }
+}
+
+pub fn number(low: u8, high: u8, digits: &[u8], line: u16) -> Result<u8, Refusal>
+    ensures { MatchResult result (λ n. (n ≡ decimal digits.now) × ((low ≤ n) × (n ≤ high))) (Refused NumberOutOfRange line) }
+{
+    let Some(n) = within(low, high, digits) else {
+        return Err(Refusal {
+            reason: Reason::NumberOutOfRange,
+            line,
+        });
+    };
+    Ok(n)
+}
+
+fn value(digits: &[u8], line: u16) -> Result<u8, Refusal>
+    ensures { MatchResult result (λ n. (n ≡ decimal digits.now) × (n ≤ 15)) (Refused NumberOutOfRange line) }
+{
+    number(0, 15, digits, line)
+}
+
+fn target(digits: &[u8], line: u16) -> Result<u8, Refusal>
+    ensures { MatchResult result (λ n. (n ≡ decimal digits.now) × (n ≤ 16)) (Refused NumberOutOfRange line) }
+{
+    number(0, 16, digits, line)
+}
+
+fn thread(digits: &[u8], line: u16) -> Result<u8, Refusal>
+    ensures { MatchResult result (λ n. (n ≡ decimal digits.now) × (n ≤ 3)) (Refused NumberOutOfRange line) }
+{
+    number(0, 3, digits, line)
+}
+
+fn operand(written: WrittenOperand<'_>, line: u16) -> Result<Operand, Refusal>
+    ensures { MatchResult result (λ e. (e ≡ operand_of written.entry) × (operand_fits e ≡ true)) (Refused NumberOutOfRange line) }
+{
+    match written {
+        WrittenOperand::Digits(digits) => Ok(Operand::Value(value(digits, line)?)),
+        WrittenOperand::Register(register) => Ok(Operand::Register(register)),
+    }
+}
+
+pub fn instruction(written: WrittenInstruction<'_>, line: u16) -> Result<Instruction, Refusal>
+    ensures { MatchResult result (λ i. (i ≡ instruction_of written.entry) × (instruction_fits i ≡ true)) (Refused NumberOutOfRange line) }
+{
+    match written {
+        WrittenInstruction::Store(v, e) => Ok(Instruction::Store(v, operand(e, line)?)),
+        WrittenInstruction::Load(r, v) => Ok(Instruction::Load(r, v)),
+        WrittenInstruction::Set(r, e) => Ok(Instruction::Set(r, operand(e, line)?)),
+        WrittenInstruction::Add(r, e) => Ok(Instruction::Add(r, operand(e, line)?)),
+        WrittenInstruction::Cas(r, v, old, new) => Ok(Instruction::Cas(
+            r,
+            v,
+            operand(old, line)?,
+            operand(new, line)?,
+        )),
+        WrittenInstruction::Fence => Ok(Instruction::Fence),
+        WrittenInstruction::Jump(n) => Ok(Instruction::Jump(target(n, line)?)),
+        WrittenInstruction::JumpIfEqual(r, e, n) => Ok(Instruction::JumpIfEqual(
+            r,
+            operand(e, line)?,
+            target(n, line)?,
+        )),
+        WrittenInstruction::JumpUnlessEqual(r, e, n) => Ok(Instruction::JumpUnlessEqual(
+            r,
+            operand(e, line)?,
+            target(n, line)?,
+        )),
+    }
+}
+
+fn condition(written: WrittenCondition<'_>, line: u16) -> Result<Condition, Refusal>
+    ensures { MatchResult result (λ c. (c ≡ condition_of written.entry) × (condition_fits c ≡ true)) (Refused NumberOutOfRange line) }
+{
+    match written {
+        WrittenCondition::At(t, n) => Ok(Condition::At(thread(t, line)?, target(n, line)?)),
+        WrittenCondition::Holds(t, r, d) => Ok(Condition::Holds(
+            thread(t, line)?,
+            r,
+            value(d, line)?,
+        )),
+        WrittenCondition::Memory(v, d) => Ok(Condition::Memory(v, value(d, line)?)),
     }
 }
 
@@ -212,7 +322,6 @@ fn with_condition(fault: FaultLine, condition: Condition) -> FaultLine
     requires value { condition_fits condition ≡ true }
     ensures fits { line_fits result ≡ true }
     ensures longer { result.length ≡ fault.length + 1 }
-    ensures conditions { conditions_of result ≡ conditions_of fault ++ condition ∷ [] }
 {
     let mut longer = fault;
     longer.conditions[usize::from(fault.length)] = condition;
@@ -220,44 +329,32 @@ fn with_condition(fault: FaultLine, condition: Condition) -> FaultLine
     longer
 }
 
-// The conditions of a fault line. All its words are taken before a number or the count is judged.
+// All its numbers are looked at before its conditions are counted.
 pub fn fault_line(mut words: Words<'_>) -> Result<FaultLine, Refusal>
-    ensures value { told conditions_of result ≡ fitted words.entry.line (fault (left words.entry)) }
-    ensures fits { IfOk result (λ l. (line_fits l ≡ true) × (line_used l ≡ true)) }
+    ensures { MatchResult result (λ l. (line_fits l ≡ true) × (line_used l ≡ true)) (Declined words.entry.line) }
 {
     let line = words.line;
     let mut fault = FaultLine {
         length: 0,
         conditions: [Condition::At(0, 0); 6],
     };
-    let mut in_range = true;
     let mut too_many = false;
     while let Some(written) = words.condition()? {
-        match condition(written, line) {
-            Ok(condition) => {
-                if room_for_condition(fault.length) {
-                    fault = with_condition(fault, condition);
-                } else {
-                    too_many = true;
-                }
-            }
-            Err(_) => in_range = false,
+        let condition = condition(written, line)?;
+        if usize::from(fault.length) < fault.conditions.len() {
+            fault = with_condition(fault, condition);
+        } else {
+            too_many = true;
         }
-    }
-    if !in_range {
-        return Err(Refusal {
-            reason: Reason::NumberOutOfRange,
-            line,
-        });
-    }
-    if fault.length == 0 {
-        return Err(no_form(line));
     }
     if too_many {
         return Err(Refusal {
             reason: Reason::TooMany,
             line,
         });
+    }
+    if fault.length == 0 {
+        return Err(no_form(line));
     }
     Ok(fault)
 }

@@ -1,10 +1,10 @@
-use Rattle.std.proofs.Common.{◌≡◌, true, get_or, sym, refl, ◌∙◌, subst, arith, below_more}
+use Rattle.std.proofs.Common.{◌≡◌, true, length, get_or, sym, refl, ◌∙◌, subst, arith, below_more}
 use Rattle.std.proofs.lemmas.List.{take_all}
 use Rattle.listing.specs.declared.lexer.Kind.TheVariants.{Comment, Other}
 use Rattle.listing.specs.Limits.{all}
 use Rattle.listing.specs.Words.{comments, kind, permitted}
 use Rattle.listing.proofs.ByteKinds.{comment_kind, other_kind, else_kind, no_comment_kind, no_comment, no_other}
-use Rattle.listing.proofs.Cuts.{front, upto_at, content_fails}
+use Rattle.listing.proofs.Cuts.{Passes, front, upto_at, content_fails}
 use Rattle.listing.proofs.Kept.{all_more}
 use Rattle.listing.proofs.lexer.words_of.Goals as goal
 
@@ -20,7 +20,7 @@ returns-in-Other c =
     let bs = c.args.bytes.now in
     let i = c.loop-i.i in
     let told = other_kind (get_or bs i 0) c.in-Other.ensures in
-    (refl, content_fails bs i (omega arith) c.loop-i.invariant.0 told.0 told.1)
+    ((refl, refl), content_fails bs i (omega arith) c.loop-i.invariant.0 told.0 told.1)
 
 pub loop-i-preserved : goal.loop-i-preserved
 loop-i-preserved c =

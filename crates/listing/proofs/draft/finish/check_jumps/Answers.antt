@@ -1,19 +1,14 @@
-use Rattle.std.proofs.Common.{refl, arith}
+use Rattle.std.proofs.Common.{sym, arith}
 use Rattle.listing.specs.Limits.{jump_within}
-use Rattle.listing.proofs.Checking.{passed, failed, ended}
+use Rattle.listing.proofs.Kept.{all_more, all_whole}
 use Rattle.listing.proofs.draft.finish.check_jumps.Goals as goal
-
-pub returns-then-not-jump-fits : goal.returns-then-not-jump-fits
-returns-then-not-jump-fits c =
-    let code = c.args.code.now in
-    (failed (jump_within code.length) c.args.lines.now code.instructions c.loop-place.place _ _ (omega arith) (omega arith) c.if-not-jump-fits.ensures c.loop-place.invariant, refl)
 
 pub loop-place-preserved : goal.loop-place-preserved
 loop-place-preserved c =
     let code = c.args.code.now in
-    passed (jump_within code.length) c.args.lines.now code.instructions c.loop-place.place _ _ (omega arith) (omega arith) c.if-not-jump-fits.ensures c.loop-place.invariant
+    all_more (jump_within code.length) code.instructions c.loop-place.place _ (omega arith) c.loop-place.invariant (sym c.if-not-jump-fits.ensures)
 
 pub returns : goal.returns
 returns c =
     let code = c.args.code.now in
-    ended (jump_within code.length) c.args.lines.now code.instructions c.loop-place.place _ (omega arith) c.loop-place.invariant
+    all_whole (jump_within code.length) code.instructions c.loop-place.place (omega arith) c.loop-place.invariant

@@ -1,4 +1,4 @@
-use Rattle.std.proofs.Common.{◌≡◌, true, subst, arith, rules}
+use Rattle.std.proofs.Common.{◌≡◌, true, sym, subst, arith, rules}
 use Rattle.listing.specs.Limits.{all}
 use Rattle.listing.specs.Code.{line_sound}
 use Rattle.listing.proofs.Bounds.{kept, lines_sound}

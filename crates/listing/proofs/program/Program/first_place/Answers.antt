@@ -1,4 +1,4 @@
-use Rattle.std.proofs.Common.{◌≡◌, ◌<◌, length, take, ap, arith, rules}
+use Rattle.std.proofs.Common.{◌≡◌, ◌+◌, ◌<◌, length, take, ap, ◌∙◌, arith, rules}
 use Rattle.listing.specs.Limits.{total}
 use Rattle.listing.proofs.Bounds.{kept, length_fits, total_more, total_part}
 use Rattle.listing.proofs.program.Program.first_place.Goals as goal
