@@ -1,6 +1,6 @@
 -- What the kind of a byte says of it. Assumes nothing.
-use Rattle.std.proofs.Common.{◌≡◌, ℕ, ◌<◌, ◌≤◌, Bool, true, false, cond, ◌&&◌, ◌||◌, eqb, leb, ◌⊎◌, sym, refl, ap, ◌∙◌, subst, ⊎_elim, arith, eqb-true, leb-true}
-use borrow.Author.Tests.{lt-leb, clash}
+use Rattle.std.proofs.Common.{◌≡◌, ℕ, ◌≤◌, Bool, true, false, cond, ◌||◌, leb, ◌⊎◌, refl, ap, ⊎_elim, arith, eqb-true, leb-true}
+use borrow.Author.Tests.{lt-leb}
 use Rattle.std.proofs.lemmas.Bool.{and_parts, and_left}
 use Rattle.listing.specs.declared.lexer.Kind.{Kind}
 use Rattle.listing.specs.declared.lexer.Kind.TheVariants.{Letter, Digit, Space, Comment, Other}

@@ -1,6 +1,6 @@
 -- What `all` and `total` keep where an element is written. Assumes nothing.
-use Rattle.std.proofs.Common.{◌≡◌, ℕ, zero, suc, ◌+◌, ◌<◌, ◌≤◌, Bool, true, false, ◌&&◌, leb, List, [], ◌∷◌, ◌++◌, length, get_or, take, drop, set, sym, refl, ap, ◌∙◌, subst, arith}
-use Rattle.std.specs.List.{AllByRecursion as All}
+use Rattle.std.proofs.Common.{◌≡◌, ℕ, zero, suc, ◌+◌, ◌<◌, ◌≤◌, Bool, true, false, ◌&&◌, leb, List, [], ◌∷◌, ◌++◌, length, get_or, take, drop, set, sym, refl, subst, arith}
+use Rattle.std.specs.List.{All}
 use Rattle.std.proofs.lemmas.List.Elements as elements
 use Rattle.std.proofs.lemmas.List.{drop-set-lt, take_more_set, take_all}
 use Rattle.std.proofs.lemmas.Bool.{and_parts, and_from, and_left, and_right, le-leb, leb-true}
@@ -13,18 +13,18 @@ use Rattle.listing.specs.Values.{instruction_fits, condition_fits}
 
 module _ {X : Type 0} (f : X → Bool) where
   pub each : (xs : List X) → all f xs ≡ true → All (λ x. f x ≡ true) xs
-  each [] h = tt
-  each (x ∷ xs) h = ((and_parts (f x) (all f xs) h).0, each xs (and_parts (f x) (all f xs) h).1)
+  each [] h = elements.All-nil (λ x. f x ≡ true)
+  each (x ∷ xs) h = elements.All-cons (λ x. f x ≡ true) x xs (and_parts (f x) (all f xs) h).0 (each xs (and_parts (f x) (all f xs) h).1)
 
   pub all_from_each : (xs : List X) → All (λ x. f x ≡ true) xs → all f xs ≡ true
   all_from_each [] h = refl
-  all_from_each (x ∷ xs) h = and_from (f x) (all f xs) h.0 (all_from_each xs h.1)
+  all_from_each (x ∷ xs) h = and_from (f x) (all f xs) (elements.All-head (λ x. f x ≡ true) x xs h) (all_from_each xs (elements.All-tail (λ x. f x ≡ true) x xs h))
 
   pub all_at : (xs : List X) (i : ℕ) (d : X) → i < length xs → all f xs ≡ true → f (get_or xs i d) ≡ true
   all_at xs i d l h = elements.All-get_or (λ x. f x ≡ true) xs i d l (each xs h)
 
   pub all_set : (xs : List X) (i : ℕ) (v : X) → all f xs ≡ true → f v ≡ true → all f (set xs i v) ≡ true
-  all_set xs i v h k = all_from_each (set xs i v) (elements.all_set (λ x. f x ≡ true) xs i v k (each xs h))
+  all_set xs i v h k = all_from_each (set xs i v) (elements.All-set (λ x. f x ≡ true) xs i v k (each xs h))
 
   -- what holds past n holds past a later number
   pub all_past : (xs : List X) (n m : ℕ) → n ≤ m → all f (drop n xs) ≡ true → all f (drop m xs) ≡ true
@@ -44,7 +44,7 @@ module _ {X : Type 0} (f : X → Bool) where
       subst (λ j. all f (take (n + 1) (set xs j v)) ≡ true) (sym at) (subst (λ ys. all f ys ≡ true) (sym (take_more_set xs n v l)) more)
 
   pub all_more : (xs : List X) (i : ℕ) (d : X) → i < length xs → all f (take i xs) ≡ true → f (get_or xs i d) ≡ true → all f (take (i + 1) xs) ≡ true
-  all_more xs i d l h k = all_from_each (take (i + 1) xs) (elements.all_more (λ x. f x ≡ true) xs i d l (each (take i xs) h) k)
+  all_more xs i d l h k = all_from_each (take (i + 1) xs) (elements.All-more (λ x. f x ≡ true) xs i d l (each (take i xs) h) k)
 
   pub all_whole : (xs : List X) (n : ℕ) → length xs ≤ n → all f (take n xs) ≡ true → all f xs ≡ true
   all_whole xs n l h = subst (λ ys. all f ys ≡ true) (take_all n xs l) h

@@ -10,7 +10,7 @@
 --   lines_of p        the fault lines
 --   conditions_of l   the conditions of a fault line
 --   line_sound l      a fault line's length is at most 6, and each of its conditions names one of four threads
-use Rattle.std.specs.Prelude.{ℕ, ◌+◌, Bool, true, cond, ◌&&◌, List, [], ◌∷◌, get_or, take, Some, None, Option, nat_le, nat_lt, slice_index_or}
+use Rattle.std.specs.Prelude.{ℕ, ◌+◌, Bool, true, cond, ◌&&◌, List, [], get_or, take, Some, None, Option, nat_le, nat_lt, slice_index_or}
 use Rattle.listing.specs.declared.code.Variable.{Variable}
 use Rattle.listing.specs.declared.code.Variable.TheVariants as variable
 use Rattle.listing.specs.declared.code.Register.{Register}

@@ -6,7 +6,7 @@
 --   left w                 how many bytes of a line are still to be taken
 --   Took names w v r       the next word of w names what is answered, and v is left; else the line is no form
 --   TookSome w v r         a condition was taken from w and v is left, or there was none to take; else the line is no form
-use Rattle.std.specs.Prelude.{◌≡◌, ℕ, ◌<◌, ◌≤◌, Bool, true, false, List, length, Some, None, Ok, Err, Option, Result}
+use Rattle.std.specs.Prelude.{◌≡◌, ℕ, ◌<◌, Bool, true, false, List, length, Some, None, Ok, Err, Option, Result}
 use Rattle.listing.specs.declared.lexer.Words.{Words}
 use Rattle.listing.specs.declared.lines.Line.{Line}
 use Rattle.listing.specs.declared.lines.Line.TheVariants as form

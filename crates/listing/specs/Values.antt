@@ -2,7 +2,7 @@
 --   operand_fits e       a value is at most 15
 --   instruction_fits i   so are its values, and a target is at most 16
 --   condition_fits c     the same, and a thread's number is at most 3
-use Rattle.std.specs.Prelude.{ℕ, Bool, true, ◌&&◌, nat_le}
+use Rattle.std.specs.Prelude.{Bool, true, ◌&&◌, nat_le}
 use Rattle.listing.specs.declared.code.Operand.{Operand}
 use Rattle.listing.specs.declared.code.Operand.TheVariants as operand
 use Rattle.listing.specs.declared.code.Instruction.{Instruction}

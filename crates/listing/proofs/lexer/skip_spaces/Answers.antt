@@ -1,4 +1,4 @@
-use Rattle.std.proofs.Common.{◌≡◌, true, not, length, get_or, sym, refl, ap, ◌∙◌, arith, length-drop, ne_eqb}
+use Rattle.std.proofs.Common.{◌≡◌, true, not, length, get_or, sym, ap, ◌∙◌, arith, length-drop, ne_eqb}
 use Rattle.std.proofs.lemmas.List.{take_rest}
 use Rattle.listing.specs.Words.{parts}
 use Rattle.listing.proofs.Cuts.{Passes, onward_at}

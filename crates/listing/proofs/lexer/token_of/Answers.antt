@@ -4,11 +4,11 @@ use Rattle.listing.proofs.ByteKinds.{digit_kind, no_digit_kind}
 use Rattle.listing.proofs.Kept.{all_more, all_whole, all_fails}
 use Rattle.listing.proofs.lexer.token_of.Goals as goal
 
-pub returns-in-default : goal.returns-in-default
-returns-in-default c =
+pub returns-in_default : goal.returns-in_default
+returns-in_default c =
     let bs = c.args.bytes.now in
     let i = c.loop-byte.byte-index in
-    (refl, (refl, all_fails is_digit bs i 0 (omega arith) (no_digit_kind (get_or bs i 0) (λ e. c.in-default.not-Digit (c.kind-of.ensures ∙ e)))))
+    (refl, (refl, all_fails is_digit bs i 0 (omega arith) (no_digit_kind (get_or bs i 0) (λ e. c.in_default.not-Digit (c.kind_of.ensures ∙ e)))))
 
 pub loop-byte-preserved : goal.loop-byte-preserved
 loop-byte-preserved c =

@@ -5,8 +5,8 @@ use Rattle.listing.specs.Code.{condition_sound}
 use Rattle.listing.proofs.Bounds.{line_parts, all_front}
 use Rattle.listing.proofs.code.FaultLine.conditions.Goals as goal
 
-pub slice-bounds-result-end : goal.slice-bounds-result-end
-slice-bounds-result-end c = omega (arith, (line_parts c.args.self.now c.requires).0)
+pub slice_bounds-result-end : goal.slice_bounds-result-end
+slice_bounds-result-end c = omega (arith, (line_parts c.args.self.now c.requires).0)
 
 pub returns : goal.returns
 returns c =

@@ -6,7 +6,7 @@ use Rattle.listing.proofs.draft.finish.check_jumps.Goals as goal
 pub loop-place-preserved : goal.loop-place-preserved
 loop-place-preserved c =
     let code = c.args.code.now in
-    all_more (jump_within code.length) code.instructions c.loop-place.place _ (omega arith) c.loop-place.invariant (sym c.if-not-jump-fits.ensures)
+    all_more (jump_within code.length) code.instructions c.loop-place.place _ (omega arith) c.loop-place.invariant (sym c.if-not-jump_fits.ensures)
 
 pub returns : goal.returns
 returns c =

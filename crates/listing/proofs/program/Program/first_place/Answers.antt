@@ -1,10 +1,10 @@
-use Rattle.std.proofs.Common.{◌≡◌, ◌+◌, ◌<◌, length, take, ap, ◌∙◌, arith, rules}
+use Rattle.std.proofs.Common.{◌≡◌, ◌<◌, length, take, ap, arith, rules}
 use Rattle.listing.specs.Limits.{total}
 use Rattle.listing.proofs.Bounds.{kept, length_fits, total_more, total_part}
 use Rattle.listing.proofs.program.Program.first_place.Goals as goal
 
-pub overflow-add-before : goal.overflow-add-before
-overflow-add-before c =
+pub overflow_add-before : goal.overflow_add-before
+overflow_add-before c =
     let p = c.args.self.now in
     let four : length p.threads ≡ 4 = search rules in
     let inside : c.loop-t.t < length p.threads = omega arith in
