@@ -1,5 +1,5 @@
 -- Which places a mask can hold. Nothing is assumed.
-use Rattle.std.proofs.Common.{◌≡◌, ℕ, zero, suc, ◌+◌, ◌-◌, ◌*◌, ◌/◌, ◌%◌, ◌^◌, ◌<◌, ◌≤◌, Bool, true, false, cond, eqb, ◌⊎◌, IfSome, Some, None, Option, sym, refl, ap, ◌∙◌, subst, inl, inr, ⊎_elim, suc-le-suc, zero-le, le_trans, lt_of_lt_of_le, mul-le-mul_right, zero-add, div-mul-le_self, arith, pow_pos, pow_mono}
+use Rattle.std.proofs.Common.{◌≡◌, ℕ, zero, suc, ◌+◌, ◌-◌, ◌*◌, ◌/◌, ◌%◌, ◌^◌, ◌<◌, ◌≤◌, Bool, true, false, cond, eqb, IfSome, Some, None, Option, sym, ⊎_elim, suc-le-suc, zero-le, lt_of_lt_of_le, mul-le-mul_right, zero-add, div-mul-le_self, arith, pow_mono}
 use native.Mathlib.Nat.{mod-le}
 use lib.Bits.{shifted_half, shifted_even}
 use lib.Count.{count_trailing_zeros}

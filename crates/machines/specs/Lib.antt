@@ -5,3 +5,4 @@ pub mod Pictures
 pub mod Places
 pub mod Queues
 pub mod Unbuffered
+pub mod Sameness

@@ -1,5 +1,6 @@
 // What a machine is, the two that are shipped, and a placement laid over any of them.
 #![tactic(auto)]
+
 pub mod buffered;
 pub mod fenced;
 pub mod instruction;
