@@ -1,5 +1,5 @@
 -- A job's report is written whole, or nothing is. Nothing is assumed.
-use Rattle.std.proofs.Common.{◌≡◌, ℕ, Bool, true, false, cond, ltb, List, length, Some, None, Ok, Err, Option, Result, sym, refl, ◌∙◌, subst, MatchResult}
+use Rattle.std.proofs.Common.{◌≡◌, ℕ, Bool, true, false, cond, ltb, List, length, Some, None, Ok, Err, Option, Result, refl, MatchResult}
 use Rattle.listing.specs.declared.refusal.Refusal.{Refusal}
 use Rattle.listing.specs.declared.refusal.Reason.TheVariants as reason
 use Rattle.machines.specs.declared.placement.Placement.{Placement}

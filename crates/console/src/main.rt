@@ -1,20 +1,16 @@
 // Reads a listing from standard input, and prints where the fences go or why there is no answer.
 #![tactic(auto)]
+
 mod answer;
 
 use answer::answer;
 use machines::buffered::Standing;
 use std::io;
 use std::io::{Read, Write};
+use std::process::ExitCode;
 
 // One byte more than a listing may have, so that a longer one is refused and not read to its end.
 const MOST_READ: u64 = 4097;
-
-// Why the process ends with status 1.
-enum Stopped {
-    Refused,
-    Failed,
-}
 
 // Prints the answer; false where it is a refusal.
 fn print_answer(rt: &HostRuntime) -> io::Result<bool> {
@@ -29,13 +25,14 @@ fn print_answer(rt: &HostRuntime) -> io::Result<bool> {
     Ok(printed.granted)
 }
 
-fn main(rt: HostRuntime) -> Result<(), Stopped> {
+// The process ends with status 1 where the listing is refused, or where reading or printing fails.
+fn main(rt: HostRuntime) -> ExitCode {
     match print_answer(&rt) {
-        Ok(true) => Ok(()),
-        Ok(false) => Err(Stopped::Refused),
+        Ok(true) => ExitCode::SUCCESS,
+        Ok(false) => ExitCode::FAILURE,
         Err(error) => {
             let _ = eprintln!(rt; "{error}");
-            Err(Stopped::Failed)
+            ExitCode::FAILURE
         }
     }
 }

@@ -1,5 +1,6 @@
 // Reads a listing from standard input, and prints how often a search over the buffered machine explores it.
 #![tactic(auto)]
+
 mod counting;
 
 use counting::Counting;

@@ -1,7 +1,6 @@
 -- The lines of a set's places, one place after another. Nothing is assumed.
-use Rattle.std.proofs.Common.{◌≡◌, ℕ, zero, suc, ◌+◌, ◌-◌, ◌<◌, ◌≤◌, Bool, true, false, cond, eqb, List, [], ◌∷◌, ◌++◌, length, Some, None, Option, sym, refl, ap, ◌∙◌, append_assoc, append-nil, add-zero, arith}
+use Rattle.std.proofs.Common.{◌≡◌, ℕ, zero, suc, ◌+◌, ◌≤◌, Bool, true, false, cond, eqb, List, [], ◌++◌, length, Some, None, sym, refl, ap, ◌∙◌, append_assoc, append-nil, add-zero, arith}
 use lib.Count.{count_trailing_zeros}
-use Rattle.std.proofs.lemmas.Bool.{cond-false, cond-true, cases_Bool, eqb-true}
 use Rattle.listing.specs.declared.program.Program.{Program}
 use Rattle.machines.specs.Places.{lowest, removing}
 use Rattle.job.specs.Text.{before, befores, placed}

@@ -3,7 +3,7 @@
 --   Read j n          the job holds a program of n places, with no bars and no kept placement
 --   solved j s        the job with the placement s kept
 --   reported          what a report answers, and what it leaves in the buffer
-use Rattle.std.specs.Prelude.{◌≡◌, ℕ, cond, List, Some, None, Ok, Err, Option, Result}
+use Rattle.std.specs.Prelude.{◌≡◌, ℕ, List, Some, None, Err, Option, Result}
 use Rattle.listing.specs.declared.refusal.Refusal.{Refusal}
 use Rattle.listing.specs.declared.refusal.Reason.{Reason}
 use Rattle.listing.specs.declared.refusal.Reason.TheVariants as reason

@@ -1,4 +1,4 @@
-use Rattle.std.proofs.Common.{◌≡◌, ℕ, ◌+◌, ◌-◌, ◌≤◌, List, ◌++◌, length, codes, ap, ◌∙◌, arith, rules}
+use Rattle.std.proofs.Common.{◌≡◌, ℕ, ◌+◌, ◌-◌, ◌≤◌, List, ◌++◌, length, codes, ap, ◌∙◌, rules}
 use Rattle.listing.specs.Code.{thread_at, place_of}
 use Rattle.job.specs.Text.{before, decimal, placed}
 use Rattle.job.proofs.Placed.{then_five}
@@ -13,18 +13,18 @@ returns c =
     let fits : c.put.result ≤ length c.args.out.now = search rules in
     let p = c.args.program.now in
     let n = c.args.place in
-    let t : c.from.result ≡ thread_at p n = c.from.ensures ∙ c.thread-at-thread.ensures.value in
+    let t : c.from.result ≡ thread_at p n = c.from.ensures ∙ c.thread_at-thread.ensures.value in
     let i : c.from-2.result ≡ n - place_of p (thread_at p n) 0 =
-    c.from-2.ensures ∙ (ap (λ k. n - k) c.first-place.ensures.value ∙ ap (λ k. n - place_of p k 0) c.thread-at-thread.ensures.value)
+    c.from-2.ensures ∙ (ap (λ k. n - k) c.first_place.ensures.value ∙ ap (λ k. n - place_of p k 0) c.thread_at-thread.ensures.value)
     in
     let w =
-    then_five c.args.out.now c.put-first.new.out c.put-number-second.new.out c.put-third.new.out c.put-number-fourth.new.out c.put.new.out
-    c.args.at c.put-first.result c.put-number-second.result c.put-third.result c.put-number-fourth.result c.put.result
+    then_five c.args.out.now c.put-first.new.out c.put_number-second.new.out c.put-third.new.out c.put_number-fourth.new.out c.put.new.out
+    c.args.at c.put-first.result c.put_number-second.result c.put-third.result c.put_number-fourth.result c.put.result
     (codes "before ") (decimal c.from.result) (codes " ") (decimal c.from-2.result) (codes "\n")
     (record { ends = c.put-first.ensures.end; is = c.put-first.ensures.after })
-    (record { ends = c.put-number-second.ensures.end; is = c.put-number-second.ensures.after })
+    (record { ends = c.put_number-second.ensures.end; is = c.put_number-second.ensures.after })
     (record { ends = c.put-third.ensures.end; is = c.put-third.ensures.after })
-    (record { ends = c.put-number-fourth.ensures.end; is = c.put-number-fourth.ensures.after })
+    (record { ends = c.put_number-fourth.ensures.end; is = c.put_number-fourth.ensures.after })
     (record { ends = c.put.ensures.end; is = c.put.ensures.after })
     fits
     in

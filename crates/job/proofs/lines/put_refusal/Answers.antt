@@ -8,13 +8,13 @@ unfolding refusal
 returns c =
     let fits : c.put.result ≤ length c.args.out.now = search rules in
     let w =
-    then_five c.args.out.now c.put-first.new.out c.put-number-second.new.out c.put-third.new.out c.put-number-fourth.new.out c.put.new.out
-    0 c.put-first.result c.put-number-second.result c.put-third.result c.put-number-fourth.result c.put.result
+    then_five c.args.out.now c.put-first.new.out c.put_number-second.new.out c.put-third.new.out c.put_number-fourth.new.out c.put.new.out
+    0 c.put-first.result c.put_number-second.result c.put-third.result c.put_number-fourth.result c.put.result
     (codes "refused ") (decimal c.from.result) (codes " line ") (decimal c.args.line) (codes "\n")
     (record { ends = c.put-first.ensures.end; is = c.put-first.ensures.after })
-    (record { ends = c.put-number-second.ensures.end; is = c.put-number-second.ensures.after })
+    (record { ends = c.put_number-second.ensures.end; is = c.put_number-second.ensures.after })
     (record { ends = c.put-third.ensures.end; is = c.put-third.ensures.after })
-    (record { ends = c.put-number-fourth.ensures.end; is = c.put-number-fourth.ensures.after })
+    (record { ends = c.put_number-fourth.ensures.end; is = c.put_number-fourth.ensures.after })
     (record { ends = c.put.ensures.end; is = c.put.ensures.after })
     fits
     in

@@ -1,4 +1,3 @@
-use Rattle.std.proofs.Common.{arith}
 use Rattle.job.proofs.Placed.{wrote_none, wrote_digit}
 use Rattle.job.proofs.text.put_digit.Goals as goal
 
@@ -9,5 +8,5 @@ returns-then-n-unit c =
 
 pub returns : goal.returns
 returns c =
-    let w = wrote_digit c.args.out.now c.args.at c.args.n c.args.unit c.requires.0 c.if-n-unit.false in
+    let w = wrote_digit c.args.out.now c.args.at c.args.n c.args.unit c.requires.at_in_bounds c.if-n-unit.false in
     record { end = w.ends; after = w.is }

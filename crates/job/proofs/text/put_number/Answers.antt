@@ -4,14 +4,14 @@ use Rattle.job.proofs.text.put_number.Goals as goal
 
 pub returns : goal.returns
 returns c =
-    let same : length c.put-digit-fourth.new.out ≡ length c.args.out.now = search rules in
+    let same : length c.put_digit-fourth.new.out ≡ length c.args.out.now = search rules in
     let w =
-    wrote_decimal c.args.out.now c.put-digit-first.new.out c.put-digit-second.new.out c.put-digit-third.new.out c.put-digit-fourth.new.out
-    c.args.at c.put-digit-first.result c.put-digit-second.result c.put-digit-third.result c.put-digit-fourth.result c.args.n
-    (record { ends = c.put-digit-first.ensures.end; is = c.put-digit-first.ensures.after })
-    (record { ends = c.put-digit-second.ensures.end; is = c.put-digit-second.ensures.after })
-    (record { ends = c.put-digit-third.ensures.end; is = c.put-digit-third.ensures.after })
-    (record { ends = c.put-digit-fourth.ensures.end; is = c.put-digit-fourth.ensures.after })
+    wrote_decimal c.args.out.now c.put_digit-first.new.out c.put_digit-second.new.out c.put_digit-third.new.out c.put_digit-fourth.new.out
+    c.args.at c.put_digit-first.result c.put_digit-second.result c.put_digit-third.result c.put_digit-fourth.result c.args.n
+    (record { ends = c.put_digit-first.ensures.end; is = c.put_digit-first.ensures.after })
+    (record { ends = c.put_digit-second.ensures.end; is = c.put_digit-second.ensures.after })
+    (record { ends = c.put_digit-third.ensures.end; is = c.put_digit-third.ensures.after })
+    (record { ends = c.put_digit-fourth.ensures.end; is = c.put_digit-fourth.ensures.after })
     c.requires same
     in
     record {
