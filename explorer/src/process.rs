@@ -99,14 +99,28 @@ pub fn examples() -> io::Result<Vec<PathBuf>> {
     Ok(paths)
 }
 
+/// Where `rt` leaves a program of the repository.
+fn built(program: &str) -> io::Result<PathBuf> {
+    Ok(repository_root()?.join("crates").join(program).join("out").join(program))
+}
+
 /// The console that the repository builds, unless a path is given.
 pub fn console(path: Option<String>) -> io::Result<PathBuf> {
     let console = match path {
         Some(path) => env::current_dir()?.join(path),
-        None => repository_root()?.join("target/bin/console"),
+        None => built("console")?,
     };
     if !console.is_file() {
         return Err(io::Error::new(io::ErrorKind::NotFound, format!("there is no console at {}", console.display())));
     }
     Ok(console)
+}
+
+/// The program `effort`: beside the console if that is not the one that the repository builds.
+pub fn effort(console: &Path) -> io::Result<PathBuf> {
+    if console == built("console")? {
+        built("effort")
+    } else {
+        Ok(console.with_file_name("effort"))
+    }
 }

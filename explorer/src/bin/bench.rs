@@ -1,6 +1,6 @@
 //! Measures the console and the explorer side by side, each as a process of its own on the same standard input, and
 //! prints a table. The first argument is the console's path, if it is not the one that the repository builds; the
-//! program `effort`, which tells how often the console's search explores a listing, stands beside the console.
+//! program `effort`, which tells how often the console's search explores a listing, stands beside a console that is given.
 
 use std::env;
 use std::fs;
@@ -75,7 +75,7 @@ impl Subject {
 /// False if the console took too long for a listing that fits its rows, or explored it too often.
 fn bench() -> io::Result<bool> {
     let console = process::console(env::args().nth(1))?;
-    let effort = console.with_file_name("effort");
+    let effort = process::effort(&console)?;
     let explorer = env::current_exe()?;
     println!(
         "| listing | standings | answer | explorations | console ms | explorer ms |\n|---|---:|---|---:|---:|---:|"
