@@ -1,13 +1,17 @@
 -- What a job holds, and what its calls answer.
 --   seen j            the barred places and the kept placement; none of either where no program was read
 --   Read j n          the job holds a program of n places, with no bars and no kept placement
+--   Holds l c         the program c is held, with no bars and no kept placement
+--   ReadsAs s j k r   what reading leaves of the job j and answers, where the text reads as s: the program is held and r is the number of its places,
+--                     or r is the refusal and the job is as it was
 --   solved j s        the job with the placement s kept
 --   reported          what a report answers, and what it leaves in the buffer
-use Rattle.std.specs.Prelude.{◌≡◌, ℕ, List, Some, None, Err, Option, Result}
+use Rattle.std.specs.Prelude.{◌≡◌, ℕ, List, Some, None, Ok, Err, Option, Result}
 use Rattle.listing.specs.declared.refusal.Refusal.{Refusal}
 use Rattle.listing.specs.declared.refusal.Reason.{Reason}
 use Rattle.listing.specs.declared.refusal.Reason.TheVariants as reason
-use Rattle.listing.specs.Code.{places}
+use Rattle.listing.specs.Code.{Code, code_of, places}
+use Rattle.listing.specs.Reading.{together}
 use Rattle.machines.specs.declared.placement.Placement.{Placement}
 use Rattle.job.specs.declared.job.Loaded.{Loaded}
 use Rattle.job.specs.declared.job.Job.{Job}
@@ -34,6 +38,14 @@ module _ {K : Type 0} where
 
   abbrev pub Read : Job K → ℕ → Type 0
   Read j n = Fresh j.loaded n
+
+  abbrev pub Holds : Option (Loaded K) → Code → Type 0
+  Holds None c = ⊥
+  Holds (Some l) c = (code_of l.program ≡ c) × ((l.barred ≡ no_places) × (l.kept ≡ None))
+
+  abbrev pub ReadsAs : Result Code Refusal → Job K → Job K → Result ℕ Refusal → Type 0
+  ReadsAs (Ok c) j after r = (r ≡ Ok (together c.threads)) × Holds after.loaded c
+  ReadsAs (Err e) j after r = (r ≡ Err e) × (after ≡ j)
 
   abbrev pub keeping : Option (Loaded K) → Placement → Option (Loaded K)
   keeping None s = None

@@ -1,7 +1,8 @@
 // A job for one kind of machine: it holds a program, the barred places, and perhaps a kept placement.
 ghost use Rattle.std.specs.Prelude.{◌≡◌, ℕ, ◌<◌, ◌≤◌, IfOk, None, Err, MatchResult, count_ones};
 ghost use Rattle.listing.specs.declared.refusal.Reason.TheVariants.{NoProgram};
-ghost use Rattle.job.specs.Jobs.{declined, seen, Read, solved, reported, buffer};
+ghost use Rattle.listing.specs.Reading.{reading};
+ghost use Rattle.job.specs.Jobs.{declined, seen, Read, ReadsAs, solved, reported, buffer};
 
 use crate::lines::put_report;
 use listing::program::Program;
@@ -49,7 +50,8 @@ impl<K: Kind + Copy> Job<K> {
 
     // Holds the program written in the listing, and answers the number of its places.
     pub fn read(&mut self, text: &[u8]) -> Result<u8, Refusal>
-        ensures { MatchResult result (λ n. Read self.new n) (λ _. self.new ≡ self.old) }
+        ensures held { MatchResult result (λ n. Read self.new n) (λ _. self.new ≡ self.old) }
+        ensures reads { ReadsAs (reading text.now) self.old self.new result }
     {
         let program = read(text)?;
         self.loaded = Some(Loaded {

@@ -1,37 +1,53 @@
--- What follows from the limits that a program keeps. Nothing is assumed.
-use Rattle.std.proofs.Common.{◌≡◌, ℕ, zero, suc, ◌+◌, ◌<◌, ◌≤◌, Bool, true, ltb, leb, List, [], ◌∷◌, ◌++◌, length, get_or, take, drop, Some, sym, refl, ap, ◌∙◌, ⊎_elim, zero-le, zero-add, arith}
+-- What follows from the limits that a program keeps. Assumes nothing.
+use Rattle.std.proofs.Common.{◌≡◌, ℕ, zero, suc, ◌+◌, ◌<◌, ◌≤◌, true, eqb, ltb, leb, List, [], ◌∷◌, ◌++◌, length, get_or, take, drop, Some, sym, refl, ap, ◌∙◌, ⊎_elim, zero-le, zero-add, arith}
 use Rattle.std.proofs.lemmas.List.{take_more}
-use Rattle.std.proofs.lemmas.Bool.{and_parts, and_from, leb-true, ltb-true, lt-ltb, le-ltb, cond-true, cond-false, cases_lt}
+use Rattle.std.proofs.lemmas.Bool.{and_parts, and_from, leb-true, le-leb, ltb-true, eqb-true, lt-ltb, le-ltb, cond-true, cond-false, cases_lt}
 use Rattle.listing.specs.declared.code.Condition.{Condition}
 use Rattle.listing.specs.declared.code.Condition.TheVariants as condition
 use Rattle.listing.specs.declared.code.FaultLine.{FaultLine}
 use Rattle.listing.specs.declared.code.ThreadCode.{ThreadCode}
 use Rattle.listing.specs.declared.program.Program.{Program}
-use Rattle.listing.specs.Limits.{all, total, thread_fits, thread_used, thread_unused, line_fits, line_used, line_unused, condition_within, line_within, between, threads_within, faults_within, within_limits}
-use Rattle.listing.proofs.Kept.{all_at}
+use Rattle.listing.specs.Limits.{all, total, thread_used, thread_unused, line_used, line_unused, jumps_within, condition_within, line_within, between, threads_within, within_limits}
+use Rattle.listing.proofs.Whole.{line_whole, thread_whole}
+use Rattle.listing.proofs.Kept.{all_at, all_join, all_weaker, line_room, thread_length}
+pub use Rattle.listing.proofs.Kept.{all_front}
 use Rattle.listing.specs.Code.{blank, no_instruction, length_of, fetched, place_of, lines_of, condition_sound, line_sound}
+use Rattle.listing.specs.Limits.{thread_fits, line_fits}
+use Rattle.listing.proofs.Rooms.{rooms, threads_whole, lines_whole}
 
-total_append : (xs ys : List ThreadCode) → total (xs ++ ys) ≡ total xs + total ys
+pub total_append : (xs ys : List ThreadCode) → total (xs ++ ys) ≡ total xs + total ys
 total_append [] ys = sym (zero-add (total ys))
 total_append (x ∷ xs) ys = omega (arith, total_append xs ys)
 
 pub total_more : (ts : List ThreadCode) (i : ℕ) → i < length ts → total (take (i + 1) ts) ≡ total (take i ts) + (get_or ts i blank).length
 total_more ts i lt = ap total (take_more ts i blank lt) ∙ omega (arith, total_append (take i ts) (get_or ts i blank ∷ []))
 
+pub total_next : (ts : List ThreadCode) (i : ℕ) → total (take i ts) + (get_or ts i blank).length ≤ total ts
+total_next [] zero = zero-le
+total_next [] (suc i) = zero-le
+total_next (t ∷ ts) zero = omega arith
+total_next (t ∷ ts) (suc i) = omega (arith, total_next ts i)
+
 pub total_part : (ts : List ThreadCode) (i : ℕ) → total (take i ts) ≤ total ts
-total_part [] zero = zero-le
-total_part [] (suc i) = zero-le
-total_part (t ∷ ts) zero = zero-le
-total_part (t ∷ ts) (suc i) = omega (arith, total_part ts i)
+total_part ts i = omega (arith, total_next ts i)
 
 pub record Kept (p : Program) : Type 0 where
   pub bound_low : 1 ≤ p.bound
   pub bound_high : p.bound ≤ 4
+  pub some_threads : 1 ≤ p.thread_count
   pub few_threads : p.thread_count ≤ 4
-  pub lengths : all thread_fits p.threads ≡ true
+  pub threads_sized : length p.threads ≡ 4
+  pub lengths : all thread_whole p.threads ≡ true
+  pub used_threads : all thread_used (take p.thread_count p.threads) ≡ true
+  pub unused_threads : all thread_unused (drop p.thread_count p.threads) ≡ true
   pub few_places : total p.threads ≤ 32
+  pub jumps : all jumps_within p.threads ≡ true
+  pub some_faults : 1 ≤ p.fault_count
   pub few_faults : p.fault_count ≤ 8
-  pub lines : all line_fits p.faults ≡ true
+  pub faults_sized : length p.faults ≡ 8
+  pub lines : all line_whole p.faults ≡ true
+  pub used_lines : all line_used (take p.fault_count p.faults) ≡ true
+  pub unused_lines : all line_unused (drop p.fault_count p.faults) ≡ true
   pub targets : all (line_within p.thread_count p.threads) p.faults ≡ true
 
 pub kept : (p : Program) → Kept p
@@ -39,13 +55,15 @@ unfolding within_limits
 kept p =
     let a = and_parts (between 1 4 p.bound) _ p.ok in
     let b = and_parts (leb 1 p.bound) (leb p.bound 4) a.0 in
-    let c = and_parts (threads_within p.thread_count p.threads) (faults_within p.thread_count p.threads p.fault_count p.faults) a.1 in
+    let c = and_parts (threads_within p.thread_count p.threads) _ a.1 in
+    let room = rooms p.threads p.faults p.room in
+    let y = and_parts (eqb (length p.threads) 4) (eqb (length p.faults) 8) room.parts in
     let d = and_parts (between 1 4 p.thread_count) _ c.0 in
     let e = and_parts (leb 1 p.thread_count) (leb p.thread_count 4) d.0 in
     let f = and_parts (all thread_fits p.threads) _ d.1 in
     let g = and_parts (all thread_used (take p.thread_count p.threads)) _ f.1 in
     let h = and_parts (all thread_unused (drop p.thread_count p.threads)) _ g.1 in
-    let i = and_parts (leb (total p.threads) 32) _ h.1 in
+    let i = and_parts (leb (total p.threads) 32) (all jumps_within p.threads) h.1 in
     let j = and_parts (between 1 8 p.fault_count) _ c.1 in
     let k = and_parts (leb 1 p.fault_count) (leb p.fault_count 8) j.0 in
     let m = and_parts (all line_fits p.faults) _ j.1 in
@@ -54,18 +72,25 @@ kept p =
     record {
       bound_low = leb-true _ _ b.0;
       bound_high = leb-true _ _ b.1;
+      some_threads = leb-true _ _ e.0;
       few_threads = leb-true _ _ e.1;
-      lengths = f.0;
+      threads_sized = eqb-true _ _ y.0;
+      lengths = threads_whole p.threads f.0 room.threads;
+      used_threads = g.0;
+      unused_threads = h.0;
       few_places = leb-true _ _ i.0;
+      jumps = i.1;
+      some_faults = leb-true _ _ k.0;
       few_faults = leb-true _ _ k.1;
-      lines = m.0;
+      faults_sized = eqb-true _ _ y.1;
+      lines = lines_whole p.faults m.0 room.lines;
+      used_lines = n.0;
+      unused_lines = o.0;
       targets = o.1;
     }
 
 pub length_fits : (p : Program) (t : ℕ) → t < length p.threads → (get_or p.threads t blank).length ≤ 16
-length_fits p t lt =
-    let code = get_or p.threads t blank in
-    leb-true _ _ (and_parts (leb code.length 16) _ (all_at thread_fits p.threads t blank lt (kept p).lengths)).0
+length_fits p t lt = thread_length (get_or p.threads t blank) (all_at thread_whole p.threads t blank lt (kept p).lengths)
 
 pub length_of_is : (p : Program) (t r : ℕ) → r ≡ t → t < p.thread_count → (get_or p.threads r blank).length ≡ length_of p t
 length_of_is p t r e lt = rw (e, lt-ltb t p.thread_count lt) refl
@@ -75,12 +100,6 @@ pub fetched_is : (p : Program) (t at r s : ℕ) → r ≡ t → s ≡ at → t <
 fetched_is p t at r s e f lt under =
     let inside : at < length_of p t = rw (← length_of_is p t t refl lt) under in
     rw (e, f) (sym (cond-true _ _ _ (lt-ltb at (length_of p t) inside)))
-
-pub total_next : (ts : List ThreadCode) (i : ℕ) → total (take i ts) + (get_or ts i blank).length ≤ total ts
-total_next [] zero = zero-le
-total_next [] (suc i) = zero-le
-total_next (t ∷ ts) zero = omega arith
-total_next (t ∷ ts) (suc i) = omega (arith, total_next ts i)
 
 -- a thread that has an instruction is one of the program's
 pub thread_is : (p : Program) (t at : ℕ) → at < length_of p t → t < p.thread_count
@@ -99,31 +118,16 @@ condition_in count ts (condition.At t n) few h = let lt : t < count = ltb-true _
 condition_in count ts (condition.Holds t r d) few h = let lt : t < count = ltb-true _ _ h in lt-ltb t 4 (omega arith)
 condition_in count ts (condition.Memory v d) few h = refl
 
-conditions_in : (count : ℕ) (ts : List ThreadCode) (cs : List Condition) → count ≤ 4 → all (condition_within count ts) cs ≡ true → all condition_sound cs ≡ true
-conditions_in count ts [] few h = refl
-conditions_in count ts (c ∷ cs) few h =
-    let parts = and_parts (condition_within count ts c) (all (condition_within count ts) cs) h in
-    and_from _ _ (condition_in count ts c few parts.0) (conditions_in count ts cs few parts.1)
-
-lines_in : (count : ℕ) (ts : List ThreadCode) (ls : List FaultLine) → count ≤ 4 → all line_fits ls ≡ true → all (line_within count ts) ls ≡ true → all line_sound ls ≡ true
+line_in : (count : ℕ) (ts : List ThreadCode) (l : FaultLine) → count ≤ 4 → line_whole l ≡ true → line_within count ts l ≡ true → line_sound l ≡ true
 unfolding line_sound
-lines_in count ts [] few f w = refl
-lines_in count ts (l ∷ ls) few f w =
-    let fits = and_parts (line_fits l) (all line_fits ls) f in
-    let within = and_parts (line_within count ts l) (all (line_within count ts) ls) w in
-    let short = and_parts (leb l.length 6) _ fits.0 in
-    and_from _ _ (and_from _ _ short.0 (conditions_in count ts l.conditions few within.0)) (lines_in count ts ls few fits.1 within.1)
-
-pub all_front : {X : Type 0} (f : X → Bool) (n : ℕ) (xs : List X) → all f xs ≡ true → all f (take n xs) ≡ true
-all_front f zero [] h = refl
-all_front f (suc n) [] h = refl
-all_front f zero (x ∷ xs) h = refl
-all_front f (suc n) (x ∷ xs) h = let parts = and_parts (f x) (all f xs) h in and_from _ _ parts.0 (all_front f n xs parts.1)
+line_in count ts l few f w =
+    and_from _ _ (le-leb _ _ (line_room l f).short) (all_weaker (condition_within count ts) condition_sound (λ c. condition_in count ts c few) l.conditions w)
 
 pub lines_sound : (p : Program) → all line_sound (lines_of p) ≡ true
 lines_sound p =
     let k = kept p in
-    all_front line_sound p.fault_count p.faults (lines_in p.thread_count p.threads p.faults k.few_threads k.lines k.targets)
+    all_front line_sound p.fault_count p.faults
+    (all_join line_whole (line_within p.thread_count p.threads) line_sound (λ l. line_in p.thread_count p.threads l k.few_threads) p.faults k.lines k.targets)
 
 pub line_parts : (l : FaultLine) → line_sound l ≡ true → (l.length ≤ 6) × (all condition_sound l.conditions ≡ true)
 unfolding line_sound

@@ -1,4 +1,7 @@
 -- What a program holds, in the terms of its listing.
+--   Code              a program as its listing has it: lists, with no room left over
+--   instructions_of t the instructions of a thread
+--   code_of p         what a program holds, as lists
 --   index v           a variable's number, from 0 for a
 --   slot r            a register's number
 --   blank, no_instruction   what stands where nothing does
@@ -10,7 +13,7 @@
 --   lines_of p        the fault lines
 --   conditions_of l   the conditions of a fault line
 --   line_sound l      a fault line's length is at most 6, and each of its conditions names one of four threads
-use Rattle.std.specs.Prelude.{ℕ, ◌+◌, Bool, true, cond, ◌&&◌, List, [], get_or, take, Some, None, Option, nat_le, nat_lt, slice_index_or}
+use Rattle.std.specs.Prelude.{ℕ, ◌+◌, Bool, true, cond, ◌&&◌, List, [], map, get_or, take, Some, None, Option, nat_le, nat_lt, slice_index_or}
 use Rattle.listing.specs.declared.code.Variable.{Variable}
 use Rattle.listing.specs.declared.code.Variable.TheVariants as variable
 use Rattle.listing.specs.declared.code.Register.{Register}
@@ -75,3 +78,19 @@ condition_sound (condition.Memory v d) = true
 
 unfoldable pub line_sound : FaultLine → Bool
 line_sound l = nat_le l.length 6 && all condition_sound l.conditions
+
+pub record Code : Type 0 where
+  pub bound : ℕ
+  pub threads : List (List Instruction)
+  pub faults : List (List Condition)
+
+abbrev pub instructions_of : ThreadCode → List Instruction
+instructions_of t = take t.length t.instructions
+
+abbrev pub code_of : Program → Code
+code_of p =
+    record {
+      bound = p.bound;
+      threads = map instructions_of (take p.thread_count p.threads);
+      faults = map conditions_of (lines_of p);
+    }

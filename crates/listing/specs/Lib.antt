@@ -1,7 +1,14 @@
 pub mod Code
+pub mod Drafts
+pub mod Examples
+pub mod Forms
+pub mod Laws
 pub mod Limits
 pub mod Lines
 pub mod Names
+pub mod Reading
 pub mod Reasons
+pub mod Spelling
+pub mod Taking
 pub mod Values
 pub mod Words

@@ -15,8 +15,11 @@
 --   line_within count ts l        so for each condition of a fault line
 --   threads_within    what holds of the count of threads and of the threads
 --   faults_within     what holds of the count of fault lines and of these, over those threads
+--   parts_room, lines_room   the room that there is for threads and fault lines, and for the lines that they stand on
+--   thread_sized t, line_sized l   the room that there is in a thread's code and in a fault line
+--   sized ts ls       all that room is there
 --   within_limits     what holds of a program's bound, its count of threads, its threads, and so of its fault lines
-use Rattle.std.specs.Prelude.{ℕ, ◌+◌, Bool, true, false, ◌&&◌, List, [], ◌∷◌, take, drop, Some, None, Option, ◌==◌, nat_le, nat_lt, slice_index_or}
+use Rattle.std.specs.Prelude.{Bool, List, None, Option, Some, [], drop, false, length, nat_eq, nat_le, nat_lt, slice_index_or, take, true, ℕ, ◌&&◌, ◌+◌, ◌==◌, ◌∷◌}
 use Rattle.listing.specs.declared.code.Condition.{Condition}
 use Rattle.listing.specs.declared.code.Condition.TheVariants as condition
 use Rattle.listing.specs.declared.code.Instruction.{Instruction}
@@ -106,6 +109,22 @@ threads_within count threads =
 abbrev pub faults_within : ℕ → List ThreadCode → ℕ → List FaultLine → Bool
 faults_within thread_count threads count faults =
     between 1 8 count && (all line_fits faults && (all line_used (take count faults) && (all line_unused (drop count faults) && all (line_within thread_count threads) faults)))
+
+abbrev pub parts_room : List ThreadCode → List FaultLine → Bool
+parts_room threads faults = length threads == 4 && length faults == 8
+
+abbrev pub lines_room : List ℕ → List (List ℕ) → List ℕ → Bool
+lines_room thread_lines instruction_lines fault_lines =
+    (length thread_lines == 4) && (length fault_lines == 8 && (length instruction_lines == 4 && all (λ ns. nat_eq (length ns) 16) instruction_lines))
+
+abbrev pub thread_sized : ThreadCode → Bool
+thread_sized t = length t.instructions == 16
+
+abbrev pub line_sized : FaultLine → Bool
+line_sized l = length l.conditions == 6
+
+abbrev pub sized : List ThreadCode → List FaultLine → Bool
+sized threads faults = parts_room threads faults && (all thread_sized threads && all line_sized faults)
 
 unfoldable pub within_limits : ℕ → ℕ → List ThreadCode → ℕ → List FaultLine → Bool
 within_limits bound thread_count threads fault_count faults =

@@ -6,6 +6,10 @@
 --   rest_of text       what follows its line end
 --   content_of line    a line without its comment
 --   permitted b        a byte may stand outside a comment
+--   pieces stop bs     what stands before, between and after the bytes that stop; what follows the last of them only if it has a byte
+--   used ps            the pieces that have a byte
+--   lines text         the lines of a text: each ends with byte 10, which the last may lack
+--   words bs           the words of bs, which spaces part
 --   next_word bs       the first word of bs, which is empty if there is none
 --   after_word bs      what follows it
 --   Tells t word line  the token t is that word or number on that line
@@ -53,6 +57,25 @@ rest_of text = drop 1 (onward ends text)
 
 abbrev pub content_of : List ℕ → List ℕ
 content_of line = upto comments line
+
+abbrev pub joined : ℕ → List (List ℕ) → List (List ℕ)
+joined b [] = (b ∷ []) ∷ []
+joined b (p ∷ ps) = (b ∷ p) ∷ ps
+
+abbrev pub pieces : (ℕ → Bool) → List ℕ → List (List ℕ)
+pieces stop [] = []
+pieces stop (b ∷ bs) = cond (stop b) ([] ∷ pieces stop bs) (joined b (pieces stop bs))
+
+abbrev pub used : List (List ℕ) → List (List ℕ)
+used [] = []
+used ([] ∷ ps) = used ps
+used ((b ∷ p) ∷ ps) = (b ∷ p) ∷ used ps
+
+unfoldable pub lines : List ℕ → List (List ℕ)
+lines text = pieces ends text
+
+unfoldable pub words : List ℕ → List (List ℕ)
+words bs = used (pieces parts bs)
 
 abbrev pub past_spaces : List ℕ → List ℕ
 past_spaces bs = onward (λ b. not (parts b)) bs

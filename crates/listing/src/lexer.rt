@@ -1,7 +1,9 @@
 // From the bytes of a text to its lines, and from a line to its words and numbers.
-ghost use Rattle.std.specs.Prelude.{◌≡◌, ◌<◌, ◌≤◌, true, false, [], length, take, drop, MatchOption, MatchResult};
+ghost use Rattle.std.specs.Prelude.{◌≡◌, ◌<◌, ◌≤◌, true, false, [], length, take, drop, IfErr, MatchOption, MatchResult, OnSome};
 ghost use Rattle.listing.specs.declared.refusal.Reason.TheVariants.{ByteNotPermitted};
 ghost use Rattle.listing.specs.Lines.{Refused};
+ghost use Rattle.listing.specs.Reading.{refusal};
+ghost use Rattle.listing.specs.Taking.{Comes, left, size};
 ghost use Rattle.listing.specs.Limits.{all};
 ghost use Rattle.listing.specs.Words.{Tells, after_word, content_of, kind, line_of, next_word, onward, parts, past_spaces, permitted, rest_of, upto};
 
@@ -58,7 +60,8 @@ pub fn first_line(text: &[u8]) -> (&[u8], &[u8])
 
 // The words of a line, up to its comment.
 pub fn words_of(bytes: &[u8], line: u16) -> Result<Words<'_>, Refusal>
-    ensures { MatchResult result (λ w. (w.line ≡ line) × ((w.rest.now ≡ content_of bytes.now) × (all permitted (content_of bytes.now) ≡ true))) (λ e. Refused ByteNotPermitted line e × (all permitted (content_of bytes.now) ≡ false)) }
+    ensures content { MatchResult result (λ w. (w.line ≡ line) × ((w.rest.now ≡ content_of bytes.now) × (all permitted (content_of bytes.now) ≡ true))) (λ e. Refused ByteNotPermitted line e × (all permitted (content_of bytes.now) ≡ false)) }
+    ensures refusal { IfErr result (λ e. e ≡ refusal ByteNotPermitted line) }
 {
     for (i, byte) in bytes.iter().enumerate() {
         match kind_of(*byte) {
@@ -121,6 +124,8 @@ impl<'a> Words<'a> {
         ensures word { MatchOption result (next_word self.old.rest.now ≡ []) (λ t. Tells t (next_word self.old.rest.now) self.old.line) }
         ensures rest { self.new.rest.now ≡ after_word self.old.rest.now }
         ensures shorter { MatchOption result (length self.new.rest.now ≤ length self.old.rest.now) (λ _. length self.new.rest.now < length self.old.rest.now) }
+        ensures comes { MatchOption result (left self.old ≡ []) (λ t. Comes t (left self.old) (left self.new) self.old.line) }
+        ensures smaller { OnSome result (size self.new < size self.old) }
     {
         let bytes = skip_spaces(self.rest);
         let (word, rest) = bytes.split_at(word_length(bytes));

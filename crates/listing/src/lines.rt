@@ -1,14 +1,19 @@
-// The forms of a line: first its words, with its numbers still as they are written, and then its values.
-ghost use Rattle.std.specs.Prelude.{◌≡◌, ◌+◌, ◌<◌, ◌≤◌, true, IfSome, IfErr, MatchResult};
+// The words of a line, taken one by one by the form that its first word begins, and the values that its numbers have.
+ghost use Rattle.std.specs.Prelude.{◌≡◌, ℕ, ◌+◌, ◌<◌, ◌≤◌, true, [], ◌∷◌, ◌++◌, IfOk, IfErr, IfSome, Some, MatchResult};
 ghost use Rattle.listing.specs.declared.refusal.Reason.TheVariants.{NoForm, NumberOutOfRange};
-ghost use Rattle.listing.specs.Names.{decimal, NamesVariable, NamesRegister, NamesNumber, NamesOperand, operand_of, instruction_of, condition_of};
+ghost use Rattle.listing.specs.Code.{conditions_of};
+ghost use Rattle.listing.specs.Forms.{fault, number as number_says, operand as operand_says, register as register_says, variable as variable_says};
+ghost use Rattle.listing.specs.Limits.{line_fits, line_used, line_sized};
+ghost use Rattle.listing.specs.Lines.{Declined, Refused, Took as TookNamed, TookSome, stands_on};
+ghost use Rattle.listing.specs.Names.{decimal, value_of, variable_of, register_of, NamesVariable, NamesRegister, NamesNumber, NamesOperand, operand_of, instruction_of, condition_of};
+ghost use Rattle.listing.specs.Reading.{refusal, some, told};
+ghost use Rattle.listing.specs.Taking.{Begins, Operands, Whole, mnemonic_word, Took, TookCondition, Valued, fitted, left, number_read, operand_read, instruction_read, condition_read};
 ghost use Rattle.listing.specs.Values.{operand_fits, instruction_fits, condition_fits};
-ghost use Rattle.listing.specs.Limits.{line_fits, line_used};
-ghost use Rattle.listing.specs.Lines.{Declined, Refused, Took, TookSome, stands_on};
 
 use crate::code::{Condition, FaultLine, Instruction, Operand, Register, Variable};
 use crate::lexer::{Token, Words};
 use crate::refusal::{Reason, Refusal};
+use limits::room_for_condition;
 
 #[derive(Clone, Copy)]
 pub enum WrittenOperand<'a> {
@@ -45,8 +50,8 @@ pub enum Line<'a> {
     Instruction(WrittenInstruction<'a>),
 }
 
-fn no_form(line: u16) -> Refusal
-    ensures { Refused NoForm line result }
+pub(crate) fn no_form(line: u16) -> Refusal
+    ensures { result ≡ refusal NoForm line }
 {
     Refusal {
         reason: Reason::NoForm,
@@ -54,8 +59,40 @@ fn no_form(line: u16) -> Refusal
     }
 }
 
+// The first word of an instruction.
+#[derive(Clone, Copy)]
+enum Mnemonic {
+    Store,
+    Load,
+    Set,
+    Add,
+    Cas,
+    Fence,
+    Jump,
+    JumpIfEqual,
+    JumpUnlessEqual,
+}
+
+fn mnemonic_named(word: &[u8], line: u16) -> Result<Mnemonic, Refusal>
+    ensures { Begins word.now line result }
+{
+    match word {
+        b"store" => Ok(Mnemonic::Store),
+        b"load" => Ok(Mnemonic::Load),
+        b"set" => Ok(Mnemonic::Set),
+        b"add" => Ok(Mnemonic::Add),
+        b"cas" => Ok(Mnemonic::Cas),
+        b"fence" => Ok(Mnemonic::Fence),
+        b"jump" => Ok(Mnemonic::Jump),
+        b"jeq" => Ok(Mnemonic::JumpIfEqual),
+        b"jne" => Ok(Mnemonic::JumpUnlessEqual),
+        _ => Err(no_form(line)),
+    }
+}
+
 fn variable_named(word: &[u8]) -> Option<Variable>
-    ensures { IfSome result (NamesVariable word.now) }
+    ensures named { IfSome result (NamesVariable word.now) }
+    ensures value { result ≡ variable_of word.now }
 {
     match word {
         b"a" => Some(Variable::A),
@@ -71,7 +108,8 @@ fn variable_named(word: &[u8]) -> Option<Variable>
 }
 
 fn register_named(word: &[u8]) -> Option<Register>
-    ensures { IfSome result (NamesRegister word.now) }
+    ensures named { IfSome result (NamesRegister word.now) }
+    ensures value { result ≡ register_of word.now }
 {
     match word {
         [b'r', b'0'] => Some(Register::R0),
@@ -84,7 +122,8 @@ fn register_named(word: &[u8]) -> Option<Register>
 
 impl<'a> Words<'a> {
     fn variable(&mut self) -> Result<Variable, Refusal>
-        ensures { Took NamesVariable self.old self.new result }
+        ensures took { TookNamed NamesVariable self.old self.new result }
+        ensures says { Took variable_says Some self.old self.new result }
     {
         let Some(Token::Word { bytes, .. }) = self.next() else {
             return Err(no_form(self.line));
@@ -96,7 +135,8 @@ impl<'a> Words<'a> {
     }
 
     fn register(&mut self) -> Result<Register, Refusal>
-        ensures { Took NamesRegister self.old self.new result }
+        ensures took { TookNamed NamesRegister self.old self.new result }
+        ensures says { Took register_says Some self.old self.new result }
     {
         let Some(Token::Word { bytes, .. }) = self.next() else {
             return Err(no_form(self.line));
@@ -107,8 +147,9 @@ impl<'a> Words<'a> {
         Ok(register)
     }
 
-    fn digits(&mut self) -> Result<&'a [u8], Refusal>
-        ensures { Took NamesNumber self.old self.new result }
+    pub(crate) fn digits(&mut self) -> Result<&'a [u8], Refusal>
+        ensures took { TookNamed NamesNumber self.old self.new result }
+        ensures says { (low high : ℕ) → Took (number_says low high) (number_read low high) self.old self.new result }
     {
         let Some(Token::Number { bytes, .. }) = self.next() else {
             return Err(no_form(self.line));
@@ -117,51 +158,56 @@ impl<'a> Words<'a> {
     }
 
     fn operand(&mut self) -> Result<WrittenOperand<'a>, Refusal>
-        ensures { Took NamesOperand self.old self.new result }
+        ensures took { TookNamed NamesOperand self.old self.new result }
+        ensures says { Took operand_says operand_read self.old self.new result }
     {
-        let bytes = match self.next() {
-            Some(Token::Number { bytes, .. }) => return Ok(WrittenOperand::Digits(bytes)),
-            Some(Token::Word { bytes, .. }) => bytes,
-            None => return Err(no_form(self.line)),
-        };
-        let Some(register) = register_named(bytes) else {
+        let Some(first) = self.next() else {
             return Err(no_form(self.line));
         };
-        Ok(WrittenOperand::Register(register))
+        match first {
+            Token::Number { bytes, .. } => Ok(WrittenOperand::Digits(bytes)),
+            Token::Word { bytes, .. } => {
+                let Some(register) = register_named(bytes) else {
+                    return Err(no_form(self.line));
+                };
+                Ok(WrittenOperand::Register(register))
+            }
+        }
     }
 
-    fn instruction(&mut self, mnemonic: &[u8]) -> Result<WrittenInstruction<'a>, Refusal>
-        ensures { MatchResult result (λ _. self.new.line ≡ self.old.line) (Refused NoForm self.old.line) }
+    // The words after an instruction's first.
+    fn operands(&mut self, mnemonic: Mnemonic) -> Result<WrittenInstruction<'a>, Refusal>
+        ensures { Operands (mnemonic_word mnemonic) self.old self.new result }
     {
         match mnemonic {
-            b"store" => Ok(WrittenInstruction::Store(self.variable()?, self.operand()?)),
-            b"load" => Ok(WrittenInstruction::Load(self.register()?, self.variable()?)),
-            b"set" => Ok(WrittenInstruction::Set(self.register()?, self.operand()?)),
-            b"add" => Ok(WrittenInstruction::Add(self.register()?, self.operand()?)),
-            b"cas" => Ok(WrittenInstruction::Cas(
+            Mnemonic::Store => Ok(WrittenInstruction::Store(self.variable()?, self.operand()?)),
+            Mnemonic::Load => Ok(WrittenInstruction::Load(self.register()?, self.variable()?)),
+            Mnemonic::Set => Ok(WrittenInstruction::Set(self.register()?, self.operand()?)),
+            Mnemonic::Add => Ok(WrittenInstruction::Add(self.register()?, self.operand()?)),
+            Mnemonic::Cas => Ok(WrittenInstruction::Cas(
                 self.register()?,
                 self.variable()?,
                 self.operand()?,
                 self.operand()?,
             )),
-            b"fence" => Ok(WrittenInstruction::Fence),
-            b"jump" => Ok(WrittenInstruction::Jump(self.digits()?)),
-            b"jeq" => Ok(WrittenInstruction::JumpIfEqual(
+            Mnemonic::Fence => Ok(WrittenInstruction::Fence),
+            Mnemonic::Jump => Ok(WrittenInstruction::Jump(self.digits()?)),
+            Mnemonic::JumpIfEqual => Ok(WrittenInstruction::JumpIfEqual(
                 self.register()?,
                 self.operand()?,
                 self.digits()?,
             )),
-            b"jne" => Ok(WrittenInstruction::JumpUnlessEqual(
+            Mnemonic::JumpUnlessEqual => Ok(WrittenInstruction::JumpUnlessEqual(
                 self.register()?,
                 self.operand()?,
                 self.digits()?,
             )),
-            _ => Err(no_form(self.line)),
         }
     }
 
     fn condition(&mut self) -> Result<Option<WrittenCondition<'a>>, Refusal>
-        ensures { TookSome self.old self.new result }
+        ensures took { TookSome self.old self.new result }
+        ensures says { TookCondition self.old self.new result }
     {
         let Some(first) = self.next() else {
             return Ok(None);
@@ -192,13 +238,24 @@ impl<'a> Words<'a> {
         Ok(())
     }
 
-    fn end(&mut self) -> Result<(), Refusal>
-        ensures { IfErr result (Refused NoForm self.old.line) }
+    // One word too many makes no form.
+    pub(crate) fn end(&mut self) -> Result<(), Refusal>
+        ensures { MatchResult result (λ _. left self.old ≡ []) (λ e. (e ≡ refusal NoForm self.old.line) × some (left self.old) ≡ true) }
     {
         let None = self.next() else {
             return Err(no_form(self.line));
         };
         Ok(())
+    }
+
+    // An instruction whose first word is given.
+    pub(crate) fn instruction(mut self, first: &[u8]) -> Result<WrittenInstruction<'a>, Refusal>
+        ensures { Whole first.now self.entry result }
+    {
+        let mnemonic = mnemonic_named(first, self.line)?;
+        let written = self.operands(mnemonic)?;
+        self.end()?;
+        Ok(written)
     }
 
     // The form of a line by its words; its numbers may be any.
@@ -215,57 +272,75 @@ impl<'a> Words<'a> {
                 self.conditions()?;
                 return Ok(Line::Fault(self));
             }
-            mnemonic => Line::Instruction(self.instruction(mnemonic)?),
+            mnemonic => return Ok(Line::Instruction(self.instruction(mnemonic)?)),
         };
         self.end()?;
         Ok(line)
     }
 }
 
-// The value of a number of at most two digits, if it lies from low to high.
-fn within(low: u8, high: u8, digits: &[u8]) -> Option<u8>
-    ensures { IfSome result (λ n. (n ≡ decimal digits.now) × ((low ≤ n) × (n ≤ high))) }
+// The number that one or two digits write.
+fn written(digits: &[u8]) -> Option<u8>
+    ensures named { IfSome result (λ n. n ≡ decimal digits.now) }
+    ensures value { result ≡ value_of digits.now }
 {
-    let n = match digits {
-        [d @ b'0'..=b'9'] => *d - b'0',
-        [t @ b'0'..=b'9', d @ b'0'..=b'9'] => (*t - b'0') * 10 + (*d - b'0'),
-        _ => return None,
-    };
-    if low <= n && n <= high { Some(n) } else { None }
+    match digits {
+        [d @ b'0'..=b'9'] => Some(*d - b'0'),
+        [t @ b'0'..=b'9', d @ b'0'..=b'9'] => Some((*t - b'0') * 10 + (*d - b'0')),
+        _ => None,
+    }
 }
 
 pub fn number(low: u8, high: u8, digits: &[u8], line: u16) -> Result<u8, Refusal>
-    ensures { MatchResult result (λ n. (n ≡ decimal digits.now) × ((low ≤ n) × (n ≤ high))) (Refused NumberOutOfRange line) }
+    ensures value { MatchResult result (λ n. (n ≡ decimal digits.now) × ((low ≤ n) × (n ≤ high))) (Refused NumberOutOfRange line) }
+    ensures read { Valued (number_read low high digits.entry) line result }
 {
-    let Some(n) = within(low, high, digits) else {
+    let Some(n) = written(digits) else {
         return Err(Refusal {
             reason: Reason::NumberOutOfRange,
             line,
         });
     };
-    Ok(n)
+    if low <= n && n <= high {
+        Ok(n)
+    } else {
+        Err(Refusal {
+            reason: Reason::NumberOutOfRange,
+            line,
+        })
+    }
+}
+
+pub(crate) fn bound(digits: &[u8], line: u16) -> Result<u8, Refusal>
+    ensures { Valued (number_read 1 4 digits.entry) line result }
+{
+    number(1, 4, digits, line)
 }
 
 fn value(digits: &[u8], line: u16) -> Result<u8, Refusal>
-    ensures { MatchResult result (λ n. (n ≡ decimal digits.now) × (n ≤ 15)) (Refused NumberOutOfRange line) }
+    ensures value { MatchResult result (λ n. (n ≡ decimal digits.now) × (n ≤ 15)) (Refused NumberOutOfRange line) }
+    ensures read { Valued (number_read 0 15 digits.entry) line result }
 {
     number(0, 15, digits, line)
 }
 
 fn target(digits: &[u8], line: u16) -> Result<u8, Refusal>
-    ensures { MatchResult result (λ n. (n ≡ decimal digits.now) × (n ≤ 16)) (Refused NumberOutOfRange line) }
+    ensures value { MatchResult result (λ n. (n ≡ decimal digits.now) × (n ≤ 16)) (Refused NumberOutOfRange line) }
+    ensures read { Valued (number_read 0 16 digits.entry) line result }
 {
     number(0, 16, digits, line)
 }
 
 fn thread(digits: &[u8], line: u16) -> Result<u8, Refusal>
-    ensures { MatchResult result (λ n. (n ≡ decimal digits.now) × (n ≤ 3)) (Refused NumberOutOfRange line) }
+    ensures value { MatchResult result (λ n. (n ≡ decimal digits.now) × (n ≤ 3)) (Refused NumberOutOfRange line) }
+    ensures read { Valued (number_read 0 3 digits.entry) line result }
 {
     number(0, 3, digits, line)
 }
 
 fn operand(written: WrittenOperand<'_>, line: u16) -> Result<Operand, Refusal>
-    ensures { MatchResult result (λ e. (e ≡ operand_of written.entry) × (operand_fits e ≡ true)) (Refused NumberOutOfRange line) }
+    ensures value { MatchResult result (λ e. (e ≡ operand_of written.entry) × (operand_fits e ≡ true)) (Refused NumberOutOfRange line) }
+    ensures read { Valued (operand_read written.entry) line result }
 {
     match written {
         WrittenOperand::Digits(digits) => Ok(Operand::Value(value(digits, line)?)),
@@ -274,7 +349,8 @@ fn operand(written: WrittenOperand<'_>, line: u16) -> Result<Operand, Refusal>
 }
 
 pub fn instruction(written: WrittenInstruction<'_>, line: u16) -> Result<Instruction, Refusal>
-    ensures { MatchResult result (λ i. (i ≡ instruction_of written.entry) × (instruction_fits i ≡ true)) (Refused NumberOutOfRange line) }
+    ensures value { MatchResult result (λ i. (i ≡ instruction_of written.entry) × (instruction_fits i ≡ true)) (Refused NumberOutOfRange line) }
+    ensures read { Valued (instruction_read written.entry) line result }
 {
     match written {
         WrittenInstruction::Store(v, e) => Ok(Instruction::Store(v, operand(e, line)?)),
@@ -303,7 +379,8 @@ pub fn instruction(written: WrittenInstruction<'_>, line: u16) -> Result<Instruc
 }
 
 fn condition(written: WrittenCondition<'_>, line: u16) -> Result<Condition, Refusal>
-    ensures { MatchResult result (λ c. (c ≡ condition_of written.entry) × (condition_fits c ≡ true)) (Refused NumberOutOfRange line) }
+    ensures value { MatchResult result (λ c. (c ≡ condition_of written.entry) × (condition_fits c ≡ true)) (Refused NumberOutOfRange line) }
+    ensures read { Valued (condition_read written.entry) line result }
 {
     match written {
         WrittenCondition::At(t, n) => Ok(Condition::At(thread(t, line)?, target(n, line)?)),
@@ -319,9 +396,12 @@ fn condition(written: WrittenCondition<'_>, line: u16) -> Result<Condition, Refu
 fn with_condition(fault: FaultLine, condition: Condition) -> FaultLine
     requires room { fault.length < 6 }
     requires fits { line_fits fault ≡ true }
+    requires sized { line_sized fault ≡ true }
     requires value { condition_fits condition ≡ true }
     ensures fits { line_fits result ≡ true }
+    ensures sized { line_sized result ≡ true }
     ensures longer { result.length ≡ fault.length + 1 }
+    ensures conditions { conditions_of result ≡ conditions_of fault ++ condition ∷ [] }
 {
     let mut longer = fault;
     longer.conditions[usize::from(fault.length)] = condition;
@@ -329,32 +409,45 @@ fn with_condition(fault: FaultLine, condition: Condition) -> FaultLine
     longer
 }
 
-// All its numbers are looked at before its conditions are counted.
+// The conditions of a fault line. All its words are taken before a number or the count is judged.
 pub fn fault_line(mut words: Words<'_>) -> Result<FaultLine, Refusal>
-    ensures { MatchResult result (λ l. (line_fits l ≡ true) × (line_used l ≡ true)) (Declined words.entry.line) }
+    ensures fits { MatchResult result (λ l. (line_fits l ≡ true) × (line_used l ≡ true)) (Declined words.entry.line) }
+    ensures sized { IfOk result (λ l. line_sized l ≡ true) }
+    ensures value { told conditions_of result ≡ fitted words.entry.line (fault (left words.entry)) }
 {
     let line = words.line;
     let mut fault = FaultLine {
         length: 0,
         conditions: [Condition::At(0, 0); 6],
     };
+    let mut in_range = true;
     let mut too_many = false;
     while let Some(written) = words.condition()? {
-        let condition = condition(written, line)?;
-        if usize::from(fault.length) < fault.conditions.len() {
-            fault = with_condition(fault, condition);
-        } else {
-            too_many = true;
+        match condition(written, line) {
+            Ok(condition) => {
+                if room_for_condition(fault.length) {
+                    fault = with_condition(fault, condition);
+                } else {
+                    too_many = true;
+                }
+            }
+            Err(_) => in_range = false,
         }
+    }
+    if !in_range {
+        return Err(Refusal {
+            reason: Reason::NumberOutOfRange,
+            line,
+        });
+    }
+    if fault.length == 0 {
+        return Err(no_form(line));
     }
     if too_many {
         return Err(Refusal {
             reason: Reason::TooMany,
             line,
         });
-    }
-    if fault.length == 0 {
-        return Err(no_form(line));
     }
     Ok(fault)
 }

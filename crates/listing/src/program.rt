@@ -1,6 +1,6 @@
 // A program that keeps its limits.
 ghost use Rattle.std.specs.Prelude.{◌≡◌, true};
-ghost use Rattle.listing.specs.Limits.{within_limits};
+ghost use Rattle.listing.specs.Limits.{within_limits, sized};
 
 use crate::code::{FaultLine, ThreadCode};
 
@@ -14,4 +14,5 @@ pub struct Program {
     pub(crate) fault_count: u8,
     pub(crate) faults: [FaultLine; 8],
     ghost ok: { within_limits bound thread_count threads fault_count faults ≡ true },
+    ghost room: { sized threads faults ≡ true },
 }

@@ -1,8 +1,11 @@
 // What is looked at once all lines are read: that nothing is missing, and that what is named is there.
-ghost use Rattle.std.specs.Prelude.{◌≡◌, true, take, IfErr, MatchResult};
-ghost use Rattle.listing.specs.Lines.{of_reading};
+ghost use Rattle.std.specs.Prelude.{◌≡◌, true, take, IfErr};
 ghost use Rattle.listing.specs.declared.refusal.Reason.TheVariants.{Missing, TargetMissing};
-ghost use Rattle.listing.specs.Limits.{all, thread_used, jump_within, jumps_within, condition_within, line_within};
+ghost use Rattle.listing.specs.Code.{code_of};
+ghost use Rattle.listing.specs.Drafts.{Checks, progress_of, thread_failing};
+ghost use Rattle.listing.specs.Limits.{thread_used, jump_within, condition_within, line_within};
+ghost use Rattle.listing.specs.Lines.{of_reading};
+ghost use Rattle.listing.specs.Reading.{finished, first_failing, told};
 
 use crate::code::{Condition, FaultLine, Instruction, ThreadCode};
 use crate::draft::Draft;
@@ -21,7 +24,7 @@ fn jump_fits(instruction: Instruction, length: u8) -> bool
 }
 
 fn check_jumps(code: &ThreadCode, lines: &[u16; 16]) -> Result<(), Refusal>
-    ensures { MatchResult result (λ _. jumps_within code.now ≡ true) (λ e. e.reason ≡ TargetMissing) }
+    ensures { Checks (first_failing (jump_within code.now.length) lines.now code.now.instructions) TargetMissing result }
 {
     let instructions: &[Instruction] = &code.instructions;
     for (place, instruction) in instructions.iter().enumerate() {
@@ -37,7 +40,7 @@ fn check_jumps(code: &ThreadCode, lines: &[u16; 16]) -> Result<(), Refusal>
 
 impl Draft {
     fn check_threads_used(&self) -> Result<(), Refusal>
-        ensures { MatchResult result (λ _. all thread_used (take self.now.thread_count self.now.threads) ≡ true) (λ e. e.reason ≡ Missing) }
+        ensures { Checks (first_failing thread_used (take self.now.thread_count self.now.thread_lines) (take self.now.thread_count self.now.threads)) Missing result }
     {
         for thread in 0..usize::from(self.thread_count) {
             if self.threads[thread].length == 0 {
@@ -51,7 +54,7 @@ impl Draft {
     }
 
     fn check_threads(&self) -> Result<(), Refusal>
-        ensures { MatchResult result (λ _. all jumps_within self.now.threads ≡ true) (λ e. e.reason ≡ TargetMissing) }
+        ensures { Checks (thread_failing self.now.instruction_lines self.now.threads) TargetMissing result }
     {
         let threads: &[ThreadCode] = &self.threads;
         for (thread, code) in threads.iter().enumerate() {
@@ -84,7 +87,7 @@ impl Draft {
     }
 
     fn check_faults(&self) -> Result<(), Refusal>
-        ensures { MatchResult result (λ _. all (line_within self.now.thread_count self.now.threads) self.now.faults ≡ true) (λ e. e.reason ≡ TargetMissing) }
+        ensures { Checks (first_failing (line_within self.now.thread_count self.now.threads) self.now.fault_lines self.now.faults) TargetMissing result }
     {
         let faults: &[FaultLine] = &self.faults;
         for (place, fault) in faults.iter().enumerate() {
@@ -100,7 +103,8 @@ impl Draft {
 
     // The program, if nothing is missing and each thread and place that it names is there.
     pub fn finish(&self) -> Result<Program, Refusal>
-        ensures { IfErr result (λ e. of_reading e.reason ≡ true) }
+        ensures reason { IfErr result (λ e. of_reading e.reason ≡ true) }
+        ensures value { told code_of result ≡ finished (progress_of self.now) }
     {
         self.check_threads_used()?;
         let Some(bound) = self.bound else {

@@ -1,7 +1,8 @@
 // What the layers above ask of a program.
 ghost use Rattle.std.specs.Prelude.{◌≡◌, ℕ, ◌+◌, ◌<◌, ◌≤◌, true, length, OnSome};
 ghost use Rattle.listing.specs.Limits.{all};
-ghost use Rattle.listing.specs.Code.{length_of, fetched, place_of, thread_at, places, lines_of, line_sound};
+ghost use Rattle.listing.specs.Code.{code_of, length_of, fetched, place_of, thread_at, places, lines_of, line_sound};
+ghost use Rattle.listing.specs.Reading.{together};
 
 use crate::code::{FaultLine, Instruction};
 use crate::program::Program;
@@ -88,6 +89,7 @@ impl Program {
     // The number of places.
     pub fn places(&self) -> u8
         ensures value { result ≡ places self.now }
+        ensures listed { result ≡ together (code_of self.now).threads }
         ensures limit { result ≤ 32 }
     {
         self.first_place(4)

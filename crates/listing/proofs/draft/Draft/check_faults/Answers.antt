@@ -1,14 +1,22 @@
-use Rattle.std.proofs.Common.{sym, arith}
+use Rattle.std.proofs.Common.{refl, arith}
 use Rattle.listing.specs.Limits.{line_within}
-use Rattle.listing.proofs.Kept.{all_more, all_whole}
+use Rattle.listing.proofs.Checking.{passed, failed, ended}
+use Rattle.listing.proofs.Finishing.{sized_of}
 use Rattle.listing.proofs.draft.Draft.check_faults.Goals as goal
+
+pub returns-then-not-line_fits : goal.returns-then-not-line_fits
+returns-then-not-line_fits c =
+    let d = c.args.self.now in
+    let sized = sized_of d in
+    (failed (line_within d.thread_count d.threads) d.fault_lines d.faults c.loop-place.place _ _ (omega arith) (omega arith) c.if-not-line_fits.ensures c.loop-place.invariant, refl)
 
 pub loop-place-preserved : goal.loop-place-preserved
 loop-place-preserved c =
     let d = c.args.self.now in
-    all_more (line_within d.thread_count d.threads) d.faults c.loop-place.place _ (omega arith) c.loop-place.invariant (sym c.if-not-line_fits.ensures)
+    let sized = sized_of d in
+    passed (line_within d.thread_count d.threads) d.fault_lines d.faults c.loop-place.place _ _ (omega arith) (omega arith) c.if-not-line_fits.ensures c.loop-place.invariant
 
 pub returns : goal.returns
 returns c =
     let d = c.args.self.now in
-    all_whole (line_within d.thread_count d.threads) d.faults c.loop-place.place (omega arith) c.loop-place.invariant
+    ended (line_within d.thread_count d.threads) d.fault_lines d.faults c.loop-place.place _ (omega arith) c.loop-place.invariant

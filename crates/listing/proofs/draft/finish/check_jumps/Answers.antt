@@ -1,14 +1,19 @@
-use Rattle.std.proofs.Common.{sym, arith}
+use Rattle.std.proofs.Common.{refl, arith}
 use Rattle.listing.specs.Limits.{jump_within}
-use Rattle.listing.proofs.Kept.{all_more, all_whole}
+use Rattle.listing.proofs.Checking.{passed, failed, ended}
 use Rattle.listing.proofs.draft.finish.check_jumps.Goals as goal
+
+pub returns-then-not-jump_fits : goal.returns-then-not-jump_fits
+returns-then-not-jump_fits c =
+    let code = c.args.code.now in
+    (failed (jump_within code.length) c.args.lines.now code.instructions c.loop-place.place _ _ (omega arith) (omega arith) c.if-not-jump_fits.ensures c.loop-place.invariant, refl)
 
 pub loop-place-preserved : goal.loop-place-preserved
 loop-place-preserved c =
     let code = c.args.code.now in
-    all_more (jump_within code.length) code.instructions c.loop-place.place _ (omega arith) c.loop-place.invariant (sym c.if-not-jump_fits.ensures)
+    passed (jump_within code.length) c.args.lines.now code.instructions c.loop-place.place _ _ (omega arith) (omega arith) c.if-not-jump_fits.ensures c.loop-place.invariant
 
 pub returns : goal.returns
 returns c =
     let code = c.args.code.now in
-    all_whole (jump_within code.length) code.instructions c.loop-place.place (omega arith) c.loop-place.invariant
+    ended (jump_within code.length) c.args.lines.now code.instructions c.loop-place.place _ (omega arith) c.loop-place.invariant

@@ -1,0 +1,47 @@
+// How much of each there may be in a listing.
+#![tactic(auto)]
+
+ghost use Rattle.std.specs.Prelude.{◌≡◌, ◌&&◌, leb, ltb};
+
+const MOST_BYTES: usize = 4096;
+
+const MOST_THREADS: u8 = 4;
+
+const MOST_IN_THREAD: u8 = 16;
+
+const MOST_INSTRUCTIONS: u8 = 32;
+
+const MOST_FAULTS: u8 = 8;
+
+const MOST_CONDITIONS: u8 = 6;
+
+pub fn short_enough(bytes: usize) -> bool
+    ensures { result ≡ leb bytes 4096 }
+{
+    bytes <= MOST_BYTES
+}
+
+pub fn room_for_thread(threads: u8) -> bool
+    ensures { result ≡ ltb threads 4 }
+{
+    threads < MOST_THREADS
+}
+
+// By the instructions of the thread, and by those of all threads.
+pub fn room_for_instruction(length: u8, together: u8) -> bool
+    ensures { result ≡ (ltb length 16 && ltb together 32) }
+{
+    length < MOST_IN_THREAD && together < MOST_INSTRUCTIONS
+}
+
+pub fn room_for_fault(faults: u8) -> bool
+    ensures { result ≡ ltb faults 8 }
+{
+    faults < MOST_FAULTS
+}
+
+pub fn room_for_condition(conditions: u8) -> bool
+    ensures { result ≡ ltb conditions 6 }
+{
+    conditions < MOST_CONDITIONS
+}

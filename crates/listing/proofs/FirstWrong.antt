@@ -1,0 +1,186 @@
+-- A refusal names the first thing wrong with a text, and a reading is a program or a refusal. Assumes nothing.
+use Rattle.std.proofs.Common.{◌≡◌, ℕ, ◌+◌, ◌≤◌, Bool, true, false, cond, not, ◌&&◌, leb, List, [], ◌∷◌, ◌++◌, length, Some, None, Ok, Err, Option, Result, sym, refl, ap, ◌∙◌, subst, inl, inr, arith}
+use Rattle.std.proofs.lemmas.Bool.{and_from, and_left, not_from_true, not_from_false, or_left, or_right, or_from, leb-true, leb-false, cond_both}
+use Rattle.listing.specs.declared.code.Instruction.{Instruction}
+use Rattle.listing.specs.declared.refusal.Reason.{Reason}
+use Rattle.listing.specs.declared.refusal.Reason.TheVariants.{ByteNotPermitted, NoForm, NumberOutOfRange, TooMany}
+use Rattle.listing.specs.declared.refusal.Refusal.{Refusal}
+use Rattle.listing.specs.Code.{Code}
+use Rattle.listing.specs.Forms.{Says, no_form, out_of_range, means, Line, form}
+use Rattle.listing.specs.Laws.{FirstBroken, formless, unranged, crowded, formless_words, unranged_words, crowded_words, Fine, FirstFailing, jumps_there, FirstJumpAstray, Wrong, too_long, broken_line, empty_thread, lacking, jump_astray, fault_astray, FirstWrong, OneOrOther}
+use Rattle.listing.specs.Limits.{all, jump_within}
+use Rattle.listing.specs.Reading.{reading, refusal, Progress, nothing, some, may_stand, room, with_line, held, worded, line, read_lines, first_failing, or_else, jump_failing, condition_there, targeted, complete, filled, finished, after_lines}
+use Rattle.listing.specs.Spelling.{Pairwise}
+use Rattle.listing.specs.Words.{permitted, content_of, words, lines}
+use Rattle.listing.proofs.Failing.{all_pass, all_jumps_pass}
+use Rattle.listing.proofs.Pairs.{AsLong}
+use Rattle.listing.proofs.Results.{refused, onto}
+use Rattle.listing.proofs.Sound.{Sound, nothing_sound, no_thread, read_lines_sound}
+
+pub one_or_other : (r : Result Code Refusal) → OneOrOther r
+one_or_other (Ok c) = (inl (c, refl), λ d e h k. let z : ◌≡◌ {A = ℕ} 0 1 = cc in omega arith)
+one_or_other (Err e) = (inr (e, refl), λ c d h k. let z : ◌≡◌ {A = ℕ} 0 1 = cc in omega arith)
+
+abbrev LineBreaks : Progress → ℕ → List ℕ → Refusal → Type 0
+LineBreaks p n bs e = (why : Reason) × ((e ≡ refusal why n) × FirstBroken why p bs)
+
+-- what a refusal of a line's words says, for a conclusion W
+held_breaks : {W : Type 0} (p : Progress) (n : ℕ) (s : Says Line) (e : Refusal) → held p n s ≡ Err e
+    → (e ≡ refusal NoForm n → formless_words s ≡ true → W)
+    → (e ≡ refusal NumberOutOfRange n → formless_words s ≡ false → unranged_words s ≡ true → W)
+    → (e ≡ refusal TooMany n → formless_words s ≡ false → unranged_words s ≡ false → crowded_words p s ≡ true → W) → W
+held_breaks p n no_form e h a b c = a (cc) refl
+held_breaks p n out_of_range e h a b c = b (cc) refl refl
+held_breaks p n (means l) e h a b c =
+    refused (room p l) (Ok (with_line p n l)) (refusal TooMany n) e h
+    (λ fits k. let z : ◌≡◌ {A = ℕ} 0 1 = cc in absurd (omega arith))
+    (λ full is. c is refl refl (not_from_false (room p l) full))
+
+worded_breaks : {W : Type 0} (p : Progress) (n : ℕ) (ws : List (List ℕ)) (e : Refusal) → worded p n ws ≡ Err e
+    → (e ≡ refusal NoForm n → formless p ws ≡ true → W)
+    → (e ≡ refusal NumberOutOfRange n → formless p ws ≡ false → unranged ws ≡ true → W)
+    → (e ≡ refusal TooMany n → formless p ws ≡ false → unranged ws ≡ false → crowded p ws ≡ true → W) → W
+worded_breaks p n [] e h a b c = let z : ◌≡◌ {A = ℕ} 0 1 = cc in absurd (omega arith)
+worded_breaks p n (w ∷ ws) e h a b c =
+    refused (may_stand p w) (held p n (form w ws)) (refusal NoForm n) e h
+    (λ stands k.
+    let here : not (may_stand p w) ≡ false = not_from_true (may_stand p w) stands in
+    held_breaks p n (form w ws) e k
+    (λ is f. a is (or_right _ _ f))
+    (λ is f u. b is (or_from _ _ here f) u)
+    (λ is f u r. c is (or_from _ _ here f) u r))
+    (λ astray is. a is (or_left _ _ (not_from_false (may_stand p w) astray)))
+
+line_breaks : (p : Progress) (n : ℕ) (bs : List ℕ) (e : Refusal) → line p n bs ≡ Err e → LineBreaks p n bs e
+line_breaks p n bs e h =
+    refused (all permitted (content_of bs)) (worded p n (words (content_of bs))) (refusal ByteNotPermitted n) e h
+    (λ clean k.
+    let ours = not_from_true (all permitted (content_of bs)) clean in
+    worded_breaks p n (words (content_of bs)) e k
+    (λ is f. (NoForm, (is, (ours, f))))
+    (λ is f u. (NumberOutOfRange, (is, (ours, (f, u)))))
+    (λ is f u r. (TooMany, (is, (ours, (f, (u, r)))))))
+    (λ odd is. (ByteNotPermitted, (is, not_from_false (all permitted (content_of bs)) odd)))
+
+record Broken (p : Progress) (n : ℕ) (ls : List (List ℕ)) (e : Refusal) : Type 0 where
+  before : List (List ℕ)
+  here : List ℕ
+  after : List (List ℕ)
+  left : Progress
+  why : Reason
+  are : ls ≡ before ++ here ∷ after
+  fine : read_lines p n before ≡ Ok left
+  says : e ≡ refusal why (n + length before)
+  breaks : FirstBroken why left here
+
+read_broken : (p : Progress) (n : ℕ) (ls : List (List ℕ)) (e : Refusal) → read_lines p n ls ≡ Err e → Broken p n ls e
+read_broken p n [] e h = let z : ◌≡◌ {A = ℕ} 0 1 = cc in absurd (omega arith)
+read_broken p n (l ∷ ls) e h =
+    elim (line p n l) as (λ r. line p n l ≡ r → onto (λ o. read_lines o (n + 1) ls) r ≡ Err e → Broken p n (l ∷ ls) e) [
+      | Ok o ↦ λ fine rest.
+          let b = read_broken o (n + 1) ls e rest in
+          record {
+            before = l ∷ b.before;
+            here = b.here;
+            after = b.after;
+            left = b.left;
+            why = b.why;
+            are = ap (λ ms. l ∷ ms) b.are;
+            fine = ap (onto (λ o. read_lines o (n + 1) b.before)) fine ∙ b.fine;
+            says = b.says ∙ ap (refusal b.why) (omega arith);
+            breaks = b.breaks;
+          }
+      | Err f ↦ λ bad rest.
+          let same : f ≡ e = cc in
+          let w = line_breaks p n l e (bad ∙ ap Err same) in
+          record {
+            before = [];
+            here = l;
+            after = ls;
+            left = p;
+            why = w.0;
+            are = refl;
+            fine = refl;
+            says = w.1.0 ∙ ap (refusal w.0) (omega arith);
+            breaks = w.1.1;
+          }
+    ] refl h
+
+first_failing_is : {X : Type 0} (test : X → Bool) (ns : List ℕ) (xs : List X) (n : ℕ) → first_failing test ns xs ≡ Some n → FirstFailing test ns xs n
+first_failing_is test [] xs n h = let z : ◌≡◌ {A = ℕ} 0 1 = cc in absurd (omega arith)
+first_failing_is test (m ∷ ns) [] n h = let z : ◌≡◌ {A = ℕ} 0 1 = cc in absurd (omega arith)
+first_failing_is test (m ∷ ns) (x ∷ xs) n h =
+    elim (test x) as (λ r. test x ≡ r → cond r (first_failing test ns xs) (Some m) ≡ Some n → FirstFailing test (m ∷ ns) (x ∷ xs) n) [
+      | true ↦ λ passes k.
+          let f = first_failing_is test ns xs n k in
+          record {
+            before = x ∷ f.before;
+            failing = f.failing;
+            after = f.after;
+            are = ap (λ ys. x ∷ ys) f.are;
+            pass = and_from (test x) (all test f.before) passes f.pass;
+            fails = f.fails;
+            stands = f.stands;
+          }
+      | false ↦ λ fails k. record { before = []; failing = x; after = xs; are = refl; pass = refl; fails = fails; stands = λ d. cc }
+    ] refl h
+
+-- what has been read, with other threads and their lines
+abbrev holding : Progress → List (List ℕ) → List (List Instruction) → Progress
+holding p nss ts = record { bound = p.bound; threads = ts; faults = p.faults; thread_lines = p.thread_lines; instruction_lines = nss; fault_lines = p.fault_lines }
+
+jump_failing_is : (p : Progress) (nss : List (List ℕ)) (ts : List (List Instruction)) (n : ℕ) → Pairwise AsLong nss ts → jump_failing nss ts ≡ Some n → FirstJumpAstray (holding p nss ts) n
+jump_failing_is p [] ts n s h = let z : ◌≡◌ {A = ℕ} 0 1 = cc in absurd (omega arith)
+jump_failing_is p (ns ∷ nss) [] n s h = let z : ◌≡◌ {A = ℕ} 0 1 = cc in absurd (omega arith)
+jump_failing_is p (ns ∷ nss) (t ∷ ts) n s h =
+    elim (first_failing (jump_within (length t)) ns t) as (λ o. first_failing (jump_within (length t)) ns t ≡ o → or_else o (jump_failing nss ts) ≡ Some n → FirstJumpAstray (holding p (ns ∷ nss) (t ∷ ts)) n) [
+      | None ↦ λ fine k.
+          let j = jump_failing_is p nss ts n s.1 k in
+          record {
+            before = t ∷ j.before;
+            astray = j.astray;
+            after = j.after;
+            are = ap (λ us. t ∷ us) j.are;
+            pass = and_from (jumps_there t) (all jumps_there j.before) (all_pass (jump_within (length t)) ns t s.0 fine) j.pass;
+            fails = j.fails;
+          }
+      | Some m ↦ λ bad k. record { before = []; astray = t; after = ts; are = refl; pass = refl; fails = first_failing_is (jump_within (length t)) ns t n (bad ∙ k) }
+    ] refl h
+
+-- what is wrong after the last line, of a text whose lines are all fine
+module _ (t : List ℕ) (p : Progress) (short : length t ≤ 4096) (fine : Fine (lines t) p) (s : Sound p) where
+  targeted_wrong : all some p.threads ≡ true → (some p.threads && some p.faults) ≡ true → (k : ℕ) (jump fall : Option ℕ)
+      → jump_failing p.instruction_lines p.threads ≡ jump → first_failing (all (condition_there p.threads)) p.fault_lines p.faults ≡ fall → FirstWrong t (targeted p k (or_else jump fall))
+  targeted_wrong used both k None None j f = tt
+  targeted_wrong used both k None (Some n) j f =
+      fault_astray short p n fine used both (all_jumps_pass p.instruction_lines p.threads s.instruction_lines j) (first_failing_is _ p.fault_lines p.faults n f)
+  targeted_wrong used both k (Some n) fall j f = jump_astray short p n fine used both (jump_failing_is p p.instruction_lines p.threads n s.instruction_lines j)
+
+  complete_wrong : all some p.threads ≡ true → (o : Option ℕ) → p.bound ≡ o → FirstWrong t (complete p o)
+  complete_wrong used None b = lacking short p fine used (and_left _ _ (no_thread p s b))
+  complete_wrong used (Some k) b =
+      cond_both (some p.threads && some p.faults) _ _ (FirstWrong t)
+      (λ both. targeted_wrong used both k _ _ refl refl)
+      (λ lack. lacking short p fine used lack)
+
+  filled_wrong : (o : Option ℕ) → first_failing some p.thread_lines p.threads ≡ o → FirstWrong t (filled p o)
+  filled_wrong None h = complete_wrong (all_pass some p.thread_lines p.threads s.thread_lines h) p.bound refl
+  filled_wrong (Some n) h = empty_thread short p n fine (first_failing_is some p.thread_lines p.threads n h)
+
+  finished_wrong : FirstWrong t (finished p)
+  unfolding finished
+  finished_wrong = filled_wrong _ refl
+
+after_lines_wrong : (t : List ℕ) (r : Result Progress Refusal) → length t ≤ 4096 → read_lines nothing 1 (lines t) ≡ r → FirstWrong t (after_lines r)
+after_lines_wrong t (Ok p) short fine = finished_wrong t p short fine (read_lines_sound (lines t) nothing p 1 nothing_sound fine)
+after_lines_wrong t (Err e) short bad =
+    let b = read_broken nothing 1 (lines t) e bad in
+    let at : 1 + length b.before ≡ length b.before + 1 = omega arith in
+    subst (Wrong t) (sym (b.says ∙ ap (refusal b.why) at)) (broken_line short b.before b.after b.here b.left b.why b.are b.fine b.breaks)
+
+pub first_wrong : (t : List ℕ) → FirstWrong t (reading t)
+unfolding reading
+first_wrong t =
+    cond_both (leb (length t) 4096) _ _ (FirstWrong t)
+    (λ short. after_lines_wrong t _ (leb-true (length t) 4096 short) refl)
+    (λ long. too_long (leb-false (length t) 4096 long))

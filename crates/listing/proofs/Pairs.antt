@@ -1,0 +1,18 @@
+-- Lists whose elements stand in pairs. Assumes nothing.
+use Rattle.std.proofs.Common.{◌≡◌, List, [], ◌∷◌, ◌++◌, map, length}
+use Rattle.std.specs.List.{AllByRecursion as All}
+use Rattle.listing.specs.Spelling.{Pairwise}
+
+abbrev pub AsLong : {X Y : Type 0} → List X → List Y → Type 0
+AsLong xs ys = length xs ≡ length ys
+
+module _ {X Y : Type 0} (R : X → Y → Type 0) where
+  pub pairwise_append : (xs us : List X) (ys vs : List Y) → Pairwise R xs ys → Pairwise R us vs → Pairwise R (xs ++ us) (ys ++ vs)
+  pairwise_append [] us [] vs h k = k
+  pairwise_append [] us (y ∷ ys) vs h k = absurd h
+  pairwise_append (x ∷ xs) us [] vs h k = absurd h
+  pairwise_append (x ∷ xs) us (y ∷ ys) vs h k = (h.0, pairwise_append xs us ys vs h.1 k)
+
+  pub pairwise_map : (f : X → Y) (xs : List X) → All (λ x. R x (f x)) xs → Pairwise R xs (map f xs)
+  pairwise_map f [] h = tt
+  pairwise_map f (x ∷ xs) h = (h.0, pairwise_map f xs h.1)

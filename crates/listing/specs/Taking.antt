@@ -1,0 +1,130 @@
+-- What taking the words of a line one by one promises.
+--   left w             the words of a line that are still to be taken
+--   size w             how many bytes they stand in
+--   in_range low high o    a number that is there and lies from low to high
+--   said o             what words say whose numbers were looked at: a value, or a number is out of its range
+--   operand_read w     the operand that is written so; and instruction_read, condition_read
+--   Valued o n r       an answer is the value, or the refusal of line n for a number out of its range
+--   Comes t ws vs n    the token t is the first of the words ws, on line n, and vs follow it
+--   Took reads read w v r    the first word of w says what was read, and v is left; else the line is no form
+--   mnemonic_word k    the first word of an instruction
+--   Begins w n r       the word w is that of a mnemonic, or no instruction begins with it
+--   Operands m w v r   the words of an instruction were taken from w and v is left; else the line is no form
+--   TookCondition w v r      a condition was taken from w and v is left, or there was none to take; else the line is no form
+use Rattle.std.specs.Prelude.{◌≡◌, ℕ, ◌<◌, true, false, cond, List, [], ◌∷◌, length, Some, None, Ok, Err, codes, Option, Result, nat_le}
+use Rattle.std.specs.Borrow.{Bor}
+use Rattle.listing.specs.declared.code.Condition.{Condition}
+use Rattle.listing.specs.declared.code.Condition.TheVariants as condition
+use Rattle.listing.specs.declared.code.Instruction.{Instruction}
+use Rattle.listing.specs.declared.code.Instruction.TheVariants as instructions
+use Rattle.listing.specs.declared.code.Operand.{Operand}
+use Rattle.listing.specs.declared.code.Operand.TheVariants as operands
+use Rattle.listing.specs.declared.lexer.Token.{Token}
+use Rattle.listing.specs.declared.lexer.Token.TheVariants.{Word, Number}
+use Rattle.listing.specs.declared.lexer.Words.{Words}
+use Rattle.listing.specs.declared.lines.Mnemonic.{Mnemonic}
+use Rattle.listing.specs.declared.lines.Mnemonic.TheVariants as mnemonic
+use Rattle.listing.specs.declared.lines.WrittenCondition.{WrittenCondition}
+use Rattle.listing.specs.declared.lines.WrittenCondition.TheVariants as wcondition
+use Rattle.listing.specs.declared.lines.WrittenInstruction.{WrittenInstruction}
+use Rattle.listing.specs.declared.lines.WrittenInstruction.TheVariants as winstruction
+use Rattle.listing.specs.declared.lines.WrittenOperand.{WrittenOperand}
+use Rattle.listing.specs.declared.lines.WrittenOperand.TheVariants as woperand
+use Rattle.listing.specs.declared.refusal.Reason.TheVariants.{NoForm, NumberOutOfRange, TooMany}
+use Rattle.listing.specs.declared.refusal.Refusal.{Refusal}
+use Rattle.listing.specs.Forms.{Says, no_form, out_of_range, means, first, rest, ended, more, instruction, all_conditions}
+use Rattle.listing.specs.Limits.{all, between}
+use Rattle.listing.specs.Names.{value_of}
+use Rattle.listing.specs.Reading.{refusal}
+use Rattle.listing.specs.Words.{words, is_digit}
+
+abbrev pub left : Words → List (List ℕ)
+left w = words w.rest.now
+
+abbrev pub size : Words → ℕ
+size w = length w.rest.now
+
+abbrev pub in_range : ℕ → ℕ → Option ℕ → Option ℕ
+in_range low high None = None
+in_range low high (Some n) = cond (between low high n) (Some n) None
+
+abbrev pub said : {X : Type 0} → Option X → Says X
+said None = out_of_range
+said (Some x) = means x
+
+abbrev pub lift : {X Y : Type 0} → Option (X → Y) → Option X → Option Y
+lift None x = None
+lift (Some f) None = None
+lift (Some f) (Some x) = Some (f x)
+
+abbrev pub number_read : ℕ → ℕ → Bor (List ℕ) → Option ℕ
+number_read low high digits = in_range low high (value_of digits.now)
+
+abbrev pub operand_read : WrittenOperand → Option Operand
+operand_read (woperand.Digits ds) = lift (Some (λ x. operands.Value x)) (number_read 0 15 ds)
+operand_read (woperand.Register r) = Some (operands.Register r)
+
+abbrev pub instruction_read : WrittenInstruction → Option Instruction
+instruction_read (winstruction.Store v e) = lift (Some (λ x. instructions.Store v x)) (operand_read e)
+instruction_read (winstruction.Load r v) = Some (instructions.Load r v)
+instruction_read (winstruction.Set r e) = lift (Some (λ x. instructions.Set r x)) (operand_read e)
+instruction_read (winstruction.Add r e) = lift (Some (λ x. instructions.Add r x)) (operand_read e)
+instruction_read (winstruction.Cas r v old new) = lift (lift (Some (λ x y. instructions.Cas r v x y)) (operand_read old)) (operand_read new)
+instruction_read winstruction.Fence = Some instructions.Fence
+instruction_read (winstruction.Jump n) = lift (Some (λ x. instructions.Jump x)) (number_read 0 16 n)
+instruction_read (winstruction.JumpIfEqual r e n) = lift (lift (Some (λ x y. instructions.JumpIfEqual r x y)) (operand_read e)) (number_read 0 16 n)
+instruction_read (winstruction.JumpUnlessEqual r e n) = lift (lift (Some (λ x y. instructions.JumpUnlessEqual r x y)) (operand_read e)) (number_read 0 16 n)
+
+abbrev pub condition_read : WrittenCondition → Option Condition
+condition_read (wcondition.At t n) = lift (lift (Some (λ x y. condition.At x y)) (number_read 0 3 t)) (number_read 0 16 n)
+condition_read (wcondition.Holds t r d) = lift (lift (Some (λ x y. condition.Holds x r y)) (number_read 0 3 t)) (number_read 0 15 d)
+condition_read (wcondition.Memory v d) = lift (Some (λ x. condition.Memory v x)) (number_read 0 15 d)
+
+abbrev pub Valued : {X : Type 0} → Option X → ℕ → Result X Refusal → Type 0
+Valued o n (Ok x) = o ≡ Some x
+Valued o n (Err e) = (o ≡ None) × (e ≡ refusal NumberOutOfRange n)
+
+abbrev pub Comes : Token → List (List ℕ) → List (List ℕ) → ℕ → Type 0
+Comes (Word bytes at) ws vs n = (ws ≡ bytes.now ∷ vs) × ((at ≡ n) × (all is_digit bytes.now ≡ false))
+Comes (Number bytes at) ws vs n = (ws ≡ bytes.now ∷ vs) × ((at ≡ n) × (all is_digit bytes.now ≡ true))
+
+abbrev pub Took : {X Y : Type 0} → (List ℕ → Says X) → (Y → Option X) → Words → Words → Result Y Refusal → Type 0
+Took reads read w v (Ok y) = (v.line ≡ w.line) × ((size v < size w) × ((left v ≡ rest (left w)) × (first reads (left w) ≡ said (read y))))
+Took reads read w v (Err e) = (e ≡ refusal NoForm w.line) × (first reads (left w) ≡ no_form)
+
+abbrev pub mnemonic_word : Mnemonic → List ℕ
+mnemonic_word mnemonic.Store = codes "store"
+mnemonic_word mnemonic.Load = codes "load"
+mnemonic_word mnemonic.Set = codes "set"
+mnemonic_word mnemonic.Add = codes "add"
+mnemonic_word mnemonic.Cas = codes "cas"
+mnemonic_word mnemonic.Fence = codes "fence"
+mnemonic_word mnemonic.Jump = codes "jump"
+mnemonic_word mnemonic.JumpIfEqual = codes "jeq"
+mnemonic_word mnemonic.JumpUnlessEqual = codes "jne"
+
+abbrev pub Begins : List ℕ → ℕ → Result Mnemonic Refusal → Type 0
+Begins w n (Ok k) = w ≡ mnemonic_word k
+Begins w n (Err e) = (e ≡ refusal NoForm n) × ((ws : List (List ℕ)) → instruction w ws ≡ no_form)
+
+abbrev pub Operands : List ℕ → Words → Words → Result WrittenInstruction Refusal → Type 0
+Operands m w v (Ok i) = (v.line ≡ w.line) × (instruction m (left w) ≡ ended (left v) (said (instruction_read i)))
+Operands m w v (Err e) = (e ≡ refusal NoForm w.line) × (instruction m (left w) ≡ no_form)
+
+abbrev pub Whole : List ℕ → Words → Result WrittenInstruction Refusal → Type 0
+Whole m w (Ok i) = instruction m (left w) ≡ said (instruction_read i)
+Whole m w (Err e) = (e ≡ refusal NoForm w.line) × (instruction m (left w) ≡ no_form)
+
+abbrev pub TookCondition : Words → Words → Result (Option WrittenCondition) Refusal → Type 0
+TookCondition w v (Ok None) = (v.line ≡ w.line) × (left w ≡ [])
+TookCondition w v (Ok (Some c)) = (v.line ≡ w.line) × ((size v < size w) × (all_conditions (left w) ≡ more (said (condition_read c)) (all_conditions (left v))))
+TookCondition w v (Err e) = (e ≡ refusal NoForm w.line) × (all_conditions (left w) ≡ no_form)
+
+-- what a fault line answers: its conditions, at most six, or the refusal of its line
+abbrev pub counted : ℕ → List Condition → Result (List Condition) Refusal
+counted n cs = cond (nat_le (length cs) 6) (Ok cs) (Err (refusal TooMany n))
+
+abbrev pub fitted : ℕ → Says (List Condition) → Result (List Condition) Refusal
+fitted n no_form = Err (refusal NoForm n)
+fitted n out_of_range = Err (refusal NumberOutOfRange n)
+fitted n (means cs) = counted n cs

@@ -1,0 +1,13 @@
+// What holds of reading as a whole, beyond the answer to one text.
+ghost use Rattle.listing.specs.Examples.{ExamplesRead};
+ghost use Rattle.listing.specs.Laws.{InReach, KnownByLists, ProgramsInReach};
+
+// The number of the laws that its contract names.
+pub fn reading_stands() -> u8
+    ensures in_reach { InReach }
+    ensures programs_in_reach { ProgramsInReach }
+    ensures known_by_lists { KnownByLists }
+    ensures examples { ExamplesRead }
+{
+    4
+}
