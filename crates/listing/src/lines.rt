@@ -396,7 +396,6 @@ fn condition(written: WrittenCondition<'_>, line: u16) -> Result<Condition, Refu
 fn with_condition(fault: FaultLine, condition: Condition) -> FaultLine
     requires room { fault.length < 6 }
     requires fits { line_fits fault ≡ true }
-    requires sized { line_sized fault ≡ true }
     requires value { condition_fits condition ≡ true }
     ensures fits { line_fits result ≡ true }
     ensures sized { line_sized result ≡ true }

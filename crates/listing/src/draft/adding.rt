@@ -28,7 +28,6 @@ pub(crate) fn too_many(line: u16) -> Refusal
 pub(crate) fn with_instruction(code: ThreadCode, instruction: Instruction) -> ThreadCode
     requires room { code.length < 16 }
     requires fits { thread_fits code ≡ true }
-    requires sized { thread_sized code ≡ true }
     requires value { instruction_fits instruction ≡ true }
     ensures fits { thread_fits result ≡ true }
     ensures sized { thread_sized result ≡ true }

@@ -12,7 +12,7 @@ use Rattle.listing.proofs.lines.fault_line.Goals as goal
 pub with_condition-fault-requires : goal.with_condition-fault-requires
 with_condition-fault-requires c =
     let parted = line_parted c.loop-written.fault c.loop-written.invariant.1.0 in
-    record { room = ltb-true c.loop-written.fault.length 6 (sym c.if-room_for_condition.ensures); fits = parted.0; sized = parted.1; value = condition_read_fits c.in-Some.written c.in-Ok.condition c.in-Ok.ensures.read }
+    record { room = ltb-true c.loop-written.fault.length 6 (sym c.if-room_for_condition.ensures); fits = parted.0; value = condition_read_fits c.in-Some.written c.in-Ok.condition c.in-Ok.ensures.read }
 
 pub loop-written-preserved-then-room_for_condition : goal.loop-written-preserved-then-room_for_condition
 loop-written-preserved-then-room_for_condition c =

@@ -61,7 +61,6 @@ with_instruction-requires c =
     record {
       room = here;
       fits = parted.0;
-      sized = parted.1;
       value = instruction_read_fits c.in_ok-instruction.field-0 c.in_ok-instruction-2.instruction c.in_ok-instruction-2.ensures.read;
     }
 

@@ -19,7 +19,6 @@ with_instruction-requires c =
     record {
       room = here;
       fits = parted.0;
-      sized = parted.1;
       value = c.in_ok-instruction.ensures.value.1;
     }
 
