@@ -1,7 +1,7 @@
 // How much of each there may be in a listing.
 #![tactic(auto)]
 
-ghost use Rattle.std.specs.Prelude.{◌≡◌, ◌&&◌, leb, ltb};
+ghost use Rattle.std.specs.Prelude.{◌≡◌, ◌&&◌, nat_le, nat_lt};
 
 const MOST_BYTES: usize = 4096;
 
@@ -16,32 +16,32 @@ const MOST_FAULTS: u8 = 8;
 const MOST_CONDITIONS: u8 = 6;
 
 pub fn short_enough(bytes: usize) -> bool
-    ensures { result ≡ leb bytes 4096 }
+    ensures { result ≡ nat_le bytes 4096 }
 {
     bytes <= MOST_BYTES
 }
 
 pub fn room_for_thread(threads: u8) -> bool
-    ensures { result ≡ ltb threads 4 }
+    ensures { result ≡ nat_lt threads 4 }
 {
     threads < MOST_THREADS
 }
 
 // By the instructions of the thread, and by those of all threads.
 pub fn room_for_instruction(length: u8, together: u8) -> bool
-    ensures { result ≡ (ltb length 16 && ltb together 32) }
+    ensures { result ≡ (nat_lt length 16 && nat_lt together 32) }
 {
     length < MOST_IN_THREAD && together < MOST_INSTRUCTIONS
 }
 
 pub fn room_for_fault(faults: u8) -> bool
-    ensures { result ≡ ltb faults 8 }
+    ensures { result ≡ nat_lt faults 8 }
 {
     faults < MOST_FAULTS
 }
 
 pub fn room_for_condition(conditions: u8) -> bool
-    ensures { result ≡ ltb conditions 6 }
+    ensures { result ≡ nat_lt conditions 6 }
 {
     conditions < MOST_CONDITIONS
 }

@@ -115,7 +115,7 @@ jumps_failing (suc n) (ns ∷ nss) (t ∷ ts) h u =
     let fits = and_parts (thread_whole t) (all thread_whole ts) h in
     rw (← thread_jumps t ns fits.0, jumps_failing n nss ts fits.1 u) refl
 
-all_jumps : (nss : List (List ℕ)) (ts : List ThreadCode) → length ts ≤ length nss → all (λ ns. eqb (length ns) 16) nss ≡ true → all thread_whole ts ≡ true → thread_failing nss ts ≡ None → all jumps_within ts ≡ true
+pub all_jumps : (nss : List (List ℕ)) (ts : List ThreadCode) → length ts ≤ length nss → all (λ ns. eqb (length ns) 16) nss ≡ true → all thread_whole ts ≡ true → thread_failing nss ts ≡ None → all jumps_within ts ≡ true
 all_jumps nss [] l s h none = refl
 all_jumps [] (t ∷ ts) l s h none = absurd (omega arith)
 all_jumps (ns ∷ nss) (t ∷ ts) l s h none =

@@ -51,7 +51,8 @@ pub enum Line<'a> {
 }
 
 pub(crate) fn no_form(line: u16) -> Refusal
-    ensures { result ≡ refusal NoForm line }
+    ensures form { Refused NoForm line result }
+    ensures refusal { result ≡ refusal NoForm line }
 {
     Refusal {
         reason: Reason::NoForm,
@@ -240,7 +241,8 @@ impl<'a> Words<'a> {
 
     // One word too many makes no form.
     pub(crate) fn end(&mut self) -> Result<(), Refusal>
-        ensures { MatchResult result (λ _. left self.old ≡ []) (λ e. (e ≡ refusal NoForm self.old.line) × some (left self.old) ≡ true) }
+        ensures form { IfErr result (Refused NoForm self.old.line) }
+        ensures ends { MatchResult result (λ _. left self.old ≡ []) (λ e. (e ≡ refusal NoForm self.old.line) × some (left self.old) ≡ true) }
     {
         let None = self.next() else {
             return Err(no_form(self.line));

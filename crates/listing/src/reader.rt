@@ -4,7 +4,7 @@ ghost use Rattle.listing.specs.declared.refusal.Reason.TheVariants.{TextTooLong}
 ghost use Rattle.listing.specs.Code.{code_of};
 ghost use Rattle.listing.specs.Drafts.{Adds, progress_of};
 ghost use Rattle.listing.specs.Laws.{Exactly, FirstWrong, OneOrOther};
-ghost use Rattle.listing.specs.Lines.{Refused, of_reading};
+ghost use Rattle.listing.specs.Lines.{Declined, Refused, of_reading};
 ghost use Rattle.listing.specs.Reading.{line as line_rules, reading, told};
 
 use crate::draft::Draft;
@@ -15,7 +15,8 @@ use crate::refusal::{Reason, Refusal};
 const MOST_BYTES: usize = 4096;
 
 fn read_line(draft: &mut Draft, bytes: &[u8], line: u16) -> Result<(), Refusal>
-    ensures { Adds (line_rules (progress_of draft.old) line bytes.now) draft.new result }
+    ensures declined { IfErr result (Declined line) }
+    ensures adds { Adds (line_rules (progress_of draft.old) line bytes.now) draft.new result }
 {
     draft.add_words(words_of(bytes, line)?)
 }

@@ -1,10 +1,11 @@
 // What a line adds to a draft, if it may stand there and there is room for it.
-ghost use Rattle.std.specs.Prelude.{◌≡◌, ◌+◌, ◌<◌, true, [], ◌∷◌, ◌++◌};
+ghost use Rattle.std.specs.Prelude.{◌≡◌, ◌+◌, ◌<◌, true, [], ◌∷◌, ◌++◌, IfErr};
 ghost use Rattle.listing.specs.declared.refusal.Reason.TheVariants.{TooMany};
 ghost use Rattle.listing.specs.Code.{instructions_of};
 ghost use Rattle.listing.specs.Drafts.{Adds, progress_of};
 ghost use Rattle.listing.specs.Forms.{bound_form, thread_form, instruction_form, fault_form};
 ghost use Rattle.listing.specs.Limits.{thread_fits, thread_sized};
+ghost use Rattle.listing.specs.Lines.{Declined};
 ghost use Rattle.listing.specs.Reading.{nothing, refusal, standing, worded, bound_stands, thread_stands, instruction_stands, fault_stands};
 ghost use Rattle.listing.specs.Taking.{left};
 ghost use Rattle.listing.specs.Values.{instruction_fits};
@@ -66,7 +67,8 @@ impl Draft {
     }
 
     fn add_bound(&mut self, mut words: Words<'_>) -> Result<(), Refusal>
-        ensures { Adds (standing (progress_of self.old) words.entry.line (bound_stands (progress_of self.old)) (bound_form (left words.entry))) self.new result }
+        ensures declined { IfErr result (Declined words.entry.line) }
+        ensures adds { Adds (standing (progress_of self.old) words.entry.line (bound_stands (progress_of self.old)) (bound_form (left words.entry))) self.new result }
     {
         let line = words.line;
         let None = self.bound else {
@@ -79,7 +81,8 @@ impl Draft {
     }
 
     fn add_thread(&mut self, mut words: Words<'_>) -> Result<(), Refusal>
-        ensures { Adds (standing (progress_of self.old) words.entry.line (thread_stands (progress_of self.old)) (thread_form (left words.entry))) self.new result }
+        ensures declined { IfErr result (Declined words.entry.line) }
+        ensures adds { Adds (standing (progress_of self.old) words.entry.line (thread_stands (progress_of self.old)) (thread_form (left words.entry))) self.new result }
     {
         let line = words.line;
         if self.bound.is_none() || self.fault_count > 0 {
@@ -95,7 +98,8 @@ impl Draft {
     }
 
     fn add_instruction(&mut self, mnemonic: &[u8], words: Words<'_>) -> Result<(), Refusal>
-        ensures { Adds (standing (progress_of self.old) words.entry.line (instruction_stands (progress_of self.old)) (instruction_form mnemonic.now (left words.entry))) self.new result }
+        ensures declined { IfErr result (Declined words.entry.line) }
+        ensures adds { Adds (standing (progress_of self.old) words.entry.line (instruction_stands (progress_of self.old)) (instruction_form mnemonic.now (left words.entry))) self.new result }
     {
         let line = words.line;
         if self.thread_count == 0 || self.fault_count > 0 {
@@ -115,7 +119,8 @@ impl Draft {
     }
 
     fn add_fault(&mut self, words: Words<'_>) -> Result<(), Refusal>
-        ensures { Adds (standing (progress_of self.old) words.entry.line (fault_stands (progress_of self.old)) (fault_form (left words.entry))) self.new result }
+        ensures declined { IfErr result (Declined words.entry.line) }
+        ensures adds { Adds (standing (progress_of self.old) words.entry.line (fault_stands (progress_of self.old)) (fault_form (left words.entry))) self.new result }
     {
         let line = words.line;
         if self.bound.is_none() {
@@ -134,7 +139,8 @@ impl Draft {
 
     // Adds what a line says by its first word and the rest; a line without words says nothing.
     pub(crate) fn add_words(&mut self, mut words: Words<'_>) -> Result<(), Refusal>
-        ensures { Adds (worded (progress_of self.old) words.entry.line (left words.entry)) self.new result }
+        ensures declined { IfErr result (Declined words.entry.line) }
+        ensures adds { Adds (worded (progress_of self.old) words.entry.line (left words.entry)) self.new result }
     {
         let Some(first) = words.next() else {
             return Ok(());

@@ -1,9 +1,9 @@
 // What is looked at once all lines are read: that nothing is missing, and that what is named is there.
-ghost use Rattle.std.specs.Prelude.{◌≡◌, true, take, IfErr};
+ghost use Rattle.std.specs.Prelude.{◌≡◌, true, take, IfErr, MatchResult};
 ghost use Rattle.listing.specs.declared.refusal.Reason.TheVariants.{Missing, TargetMissing};
 ghost use Rattle.listing.specs.Code.{code_of};
 ghost use Rattle.listing.specs.Drafts.{Checks, progress_of, thread_failing};
-ghost use Rattle.listing.specs.Limits.{thread_used, jump_within, condition_within, line_within};
+ghost use Rattle.listing.specs.Limits.{all, thread_used, jump_within, jumps_within, condition_within, line_within};
 ghost use Rattle.listing.specs.Lines.{of_reading};
 ghost use Rattle.listing.specs.Reading.{finished, first_failing, told};
 
@@ -24,7 +24,8 @@ fn jump_fits(instruction: Instruction, length: u8) -> bool
 }
 
 fn check_jumps(code: &ThreadCode, lines: &[u16; 16]) -> Result<(), Refusal>
-    ensures { Checks (first_failing (jump_within code.now.length) lines.now code.now.instructions) TargetMissing result }
+    ensures within { MatchResult result (λ _. jumps_within code.now ≡ true) (λ e. e.reason ≡ TargetMissing) }
+    ensures checks { Checks (first_failing (jump_within code.now.length) lines.now code.now.instructions) TargetMissing result }
 {
     let instructions: &[Instruction] = &code.instructions;
     for (place, instruction) in instructions.iter().enumerate() {
@@ -40,7 +41,8 @@ fn check_jumps(code: &ThreadCode, lines: &[u16; 16]) -> Result<(), Refusal>
 
 impl Draft {
     fn check_threads_used(&self) -> Result<(), Refusal>
-        ensures { Checks (first_failing thread_used (take self.now.thread_count self.now.thread_lines) (take self.now.thread_count self.now.threads)) Missing result }
+        ensures within { MatchResult result (λ _. all thread_used (take self.now.thread_count self.now.threads) ≡ true) (λ e. e.reason ≡ Missing) }
+        ensures checks { Checks (first_failing thread_used (take self.now.thread_count self.now.thread_lines) (take self.now.thread_count self.now.threads)) Missing result }
     {
         for thread in 0..usize::from(self.thread_count) {
             if self.threads[thread].length == 0 {
@@ -54,7 +56,8 @@ impl Draft {
     }
 
     fn check_threads(&self) -> Result<(), Refusal>
-        ensures { Checks (thread_failing self.now.instruction_lines self.now.threads) TargetMissing result }
+        ensures within { MatchResult result (λ _. all jumps_within self.now.threads ≡ true) (λ e. e.reason ≡ TargetMissing) }
+        ensures checks { Checks (thread_failing self.now.instruction_lines self.now.threads) TargetMissing result }
     {
         let threads: &[ThreadCode] = &self.threads;
         for (thread, code) in threads.iter().enumerate() {
@@ -87,7 +90,8 @@ impl Draft {
     }
 
     fn check_faults(&self) -> Result<(), Refusal>
-        ensures { Checks (first_failing (line_within self.now.thread_count self.now.threads) self.now.fault_lines self.now.faults) TargetMissing result }
+        ensures within { MatchResult result (λ _. all (line_within self.now.thread_count self.now.threads) self.now.faults ≡ true) (λ e. e.reason ≡ TargetMissing) }
+        ensures checks { Checks (first_failing (line_within self.now.thread_count self.now.threads) self.now.fault_lines self.now.faults) TargetMissing result }
     {
         let faults: &[FaultLine] = &self.faults;
         for (place, fault) in faults.iter().enumerate() {

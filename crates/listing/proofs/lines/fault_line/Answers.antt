@@ -53,7 +53,7 @@ returns-then-fault-eq0-clause-value c =
     let ws = left c.args.words in
     let g = subst (λ b. Gathering ws [] c.loop-written.fault b c.loop-written.too_many) c.if-not-in_range.false (gather_ended ws c.loop-written.words c.condition.new.self c.in_ok-written.field-0 c.loop-written.fault c.loop-written.in_range c.loop-written.too_many c.in_ok-written.ensures.says c.in_default.is c.loop-written.invariant.1.1) in
     let none : length (conditions_of c.loop-written.fault) ≡ 0 = omega (arith, conditions_length c.loop-written.fault c.loop-written.invariant.1.0) in
-    ap Err c.no_form.ensures ∙ sym (ap (fitted c.args.words.line) (none_end ws c.loop-written.fault c.loop-written.too_many g none))
+    ap Err c.no_form.ensures.refusal ∙ sym (ap (fitted c.args.words.line) (none_end ws c.loop-written.fault c.loop-written.too_many g none))
 
 pub returns-then-too_many-clause-value : goal.returns-then-too_many-clause-value
 returns-then-too_many-clause-value c =

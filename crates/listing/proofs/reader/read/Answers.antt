@@ -24,7 +24,7 @@ returns-in_err-read_line c =
     let x = err_from_is_err_and c.from_residual.result c.from_residual.ensures.1 in
     let filled = eqb-false (length left) 0 (sym c.loop-rest-test.ensures) in
     let some : 0 < length left = omega arith in
-    let wrong = next_refused (progress_of c.loop-rest.draft) (c.loop-rest.line + 1) left some c.in_err-read_line.field-0.0 (ap (line (progress_of c.loop-rest.draft) (c.loop-rest.line + 1)) (sym c.first_line.ensures.line) ∙ c.in_err-read_line.ensures) in
+    let wrong = next_refused (progress_of c.loop-rest.draft) (c.loop-rest.line + 1) left some c.in_err-read_line.field-0.0 (ap (line (progress_of c.loop-rest.draft) (c.loop-rest.line + 1)) (sym c.first_line.ensures.line) ∙ c.in_err-read_line.ensures.adds) in
     let is : told code_of c.from_residual.result ≡ reading t = rw (x.1, x.2) (after_all t (Err c.in_err-read_line.field-0.0) (omega arith) (sym c.loop-rest.invariant.1 ∙ wrong)) in
     record { length = length_promised t _ (exactly_read t _ is) (first_wrong_read t _ is); reason = reason_promised t _ (first_wrong_read t _ is); value = is; exactly = exactly_read t _ is; first_wrong = first_wrong_read t _ is; one_or_other = one_or_other _ }
 
@@ -33,7 +33,7 @@ loop-rest-preserved c =
     let left = c.loop-rest.rest.now in
     let filled = eqb-false (length left) 0 (sym c.loop-rest-test.ensures) in
     let some : 0 < length left = omega arith in
-    let fine = next_fine (progress_of c.loop-rest.draft) (c.loop-rest.line + 1) left some (progress_of c.read_line.new.draft) (ap (line (progress_of c.loop-rest.draft) (c.loop-rest.line + 1)) (sym c.first_line.ensures.line) ∙ c.in_ok-read_line.ensures) in
+    let fine = next_fine (progress_of c.loop-rest.draft) (c.loop-rest.line + 1) left some (progress_of c.read_line.new.draft) (ap (line (progress_of c.loop-rest.draft) (c.loop-rest.line + 1)) (sym c.first_line.ensures.line) ∙ c.in_ok-read_line.ensures.adds) in
     (omega (arith, c.first_line.ensures.shorter some), ap (λ r. read_lines (progress_of c.read_line.new.draft) (c.loop-rest.line + 1 + 1) (lines r)) c.first_line.ensures.rest ∙ sym fine ∙ c.loop-rest.invariant.1)
 
 pub returns : goal.returns

@@ -14,21 +14,21 @@ use Rattle.listing.proofs.Stands.{stands_not, fault_not, fault_means, full, adds
 use Rattle.listing.proofs.Rooms.{rooms, sized_from}
 use Rattle.listing.proofs.draft.Draft.add_fault.Goals as goal
 
-pub returns-then-is_none : goal.returns-then-is_none
+pub returns-then-is_none-clause-adds : goal.returns-then-is_none-clause-adds
 unfolding progress_of
-returns-then-is_none c =
+returns-then-is_none-clause-adds c =
     let p = progress_of c.args.self.now in
-    stands_not p c.args.words.line (fault_stands p) (fault_form (left c.args.words)) c.no_form.result c.if-is_none.ensures c.no_form.ensures
+    stands_not p c.args.words.line (fault_stands p) (fault_form (left c.args.words)) c.no_form.result c.if-is_none.ensures c.no_form.ensures.refusal
 
-pub returns-in_err-fault : goal.returns-in_err-fault
+pub returns-in_err-fault-clause-adds : goal.returns-in_err-fault-clause-adds
 unfolding progress_of
-returns-in_err-fault c =
+returns-in_err-fault-clause-adds c =
     let q = err_from_is_err_and c.from_residual.result c.from_residual.ensures.1 in
     rw (q.1, q.2, c.if-is_none.ensures) (fault_not (progress_of c.args.self.now) c.args.words.line (fault (left c.args.words)) c.in_err-fault.field-0.0 c.in_err-fault.ensures.value)
 
-pub returns-then-not-room_for_fault : goal.returns-then-not-room_for_fault
+pub returns-then-not-room_for_fault-clause-adds : goal.returns-then-not-room_for_fault-clause-adds
 unfolding progress_of
-returns-then-not-room_for_fault c =
+returns-then-not-room_for_fault-clause-adds c =
     let d = c.args.self.now in
     let p = progress_of d in
     let f = c.in_ok-fault.fault in
@@ -69,9 +69,9 @@ invariant_of-self c =
       lines_sized = sized;
     }
 
-pub returns : goal.returns
+pub returns-clause-adds : goal.returns-clause-adds
 unfolding progress_of
-returns c =
+returns-clause-adds c =
     let d = c.args.self.now in
     let here = ltb-true d.fault_count 8 (sym c.if-not-room_for_fault.ensures) in
     let p = progress_of d in

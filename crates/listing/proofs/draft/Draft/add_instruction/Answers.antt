@@ -17,8 +17,8 @@ use Rattle.listing.proofs.Rooms.{rooms, sized_from}
 use Rattle.listing.proofs.draft.Draft.add_instruction.Goals as goal
 use Rattle.listing.proofs.draft.Draft.add_instruction.Goals.{then-self-eq0-via-then-self-eq0, then-self-eq0-via-else-self-eq0+then-self-gt0}
 
-pub returns-then-self-eq0 : goal.returns-then-self-eq0
-returns-then-self-eq0 c =
+pub returns-then-self-eq0-clause-adds : goal.returns-then-self-eq0-clause-adds
+returns-then-self-eq0-clause-adds c =
     let d = c.args.self.now in
     let p = progress_of d in
     let not-here : instruction_stands p ≡ false =
@@ -26,10 +26,10 @@ returns-then-self-eq0 c =
       | then-self-eq0-via-then-self-eq0 w ↦ and_left _ _ (some_threads d ∙ le-ltb 0 d.thread_count (omega (arith, w.if-self-eq0.true)))
       | then-self-eq0-via-else-self-eq0+then-self-gt0 w ↦ and_right _ _ (with_faults d w.if-self-gt0.true)
     ] in
-    stands_not p c.args.words.line (instruction_stands p) (instruction_form c.args.mnemonic.now (left c.args.words)) c.no_form.result not-here c.no_form.ensures
+    stands_not p c.args.words.line (instruction_stands p) (instruction_form c.args.mnemonic.now (left c.args.words)) c.no_form.result not-here c.no_form.ensures.refusal
 
-pub returns-in_err-instruction-2 : goal.returns-in_err-instruction-2
-returns-in_err-instruction-2 c =
+pub returns-in_err-instruction-2-clause-adds : goal.returns-in_err-instruction-2-clause-adds
+returns-in_err-instruction-2-clause-adds c =
     let q = err_from_is_err_and c.from_residual-in_err-instruction-2.result c.from_residual-in_err-instruction-2.ensures.1 in
     let d = c.args.self.now in
     let p = progress_of d in
@@ -39,8 +39,8 @@ returns-in_err-instruction-2 c =
     (ranges_not p c.args.words.line (instruction_stands p) (instruction_form c.args.mnemonic.now (left c.args.words)) c.in_err-instruction-2.field-0.0
     (instruction_here d (omega arith) (omega arith)) (rw (says, told.0) refl) told.1)
 
-pub returns-then-not-room_for_instruction : goal.returns-then-not-room_for_instruction
-returns-then-not-room_for_instruction c =
+pub returns-then-not-room_for_instruction-clause-adds : goal.returns-then-not-room_for_instruction-clause-adds
+returns-then-not-room_for_instruction-clause-adds c =
     let d = c.args.self.now in
     let p = progress_of d in
     let at = c.from-thread.result - 1 in
@@ -95,9 +95,9 @@ invariant_of-self c =
       lines_sized = sized;
     }
 
-pub returns : goal.returns
+pub returns-clause-adds : goal.returns-clause-adds
 unfolding progress_of
-returns c =
+returns-clause-adds c =
     let d = c.args.self.now in
     let p = progress_of d in
     let at = c.from-thread.result - 1 in

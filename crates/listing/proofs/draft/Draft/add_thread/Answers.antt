@@ -12,9 +12,9 @@ use Rattle.listing.proofs.Stands.{stands_not, full, adds}
 use Rattle.listing.proofs.draft.Draft.add_thread.Goals as goal
 use Rattle.listing.proofs.draft.Draft.add_thread.Goals.{then-is_none-via-then-is_none, then-is_none-via-else-is_none+then-self-gt0}
 
-pub returns-then-is_none : goal.returns-then-is_none
+pub returns-then-is_none-clause-adds : goal.returns-then-is_none-clause-adds
 unfolding progress_of
-returns-then-is_none c =
+returns-then-is_none-clause-adds c =
     let d = c.args.self.now in
     let p = progress_of d in
     let not-here : thread_stands p ≡ false =
@@ -22,16 +22,16 @@ returns-then-is_none c =
       | then-is_none-via-then-is_none w ↦ and_left _ _ w.if-is_none.ensures
       | then-is_none-via-else-is_none+then-self-gt0 w ↦ and_right _ _ (with_faults d w.if-self-gt0.true)
     ] in
-    stands_not p c.args.words.line (thread_stands p) (thread_form (left c.args.words)) c.no_form.result not-here c.no_form.ensures
+    stands_not p c.args.words.line (thread_stands p) (thread_form (left c.args.words)) c.no_form.result not-here c.no_form.ensures.refusal
 
-pub returns-then-not-room_for_thread : goal.returns-then-not-room_for_thread
+pub returns-then-not-room_for_thread-clause-adds : goal.returns-then-not-room_for_thread-clause-adds
 unfolding progress_of
-returns-then-not-room_for_thread c =
+returns-then-not-room_for_thread-clause-adds c =
     let d = c.args.self.now in
     let p = progress_of d in
     full p c.args.words.line (thread_stands p) (thread_form (left c.args.words)) c.too_many.result thread_line
     (and_from _ _ c.if-is_none.ensures (no_faults d (omega arith)))
-    (rw c.in_ok-end.ensures refl)
+    (rw c.in_ok-end.ensures.ends refl)
     (rw (thread_number d) (sym c.if-not-room_for_thread.ensures))
     c.too_many.ensures
 
@@ -57,14 +57,14 @@ invariant_of-self c =
       lines_sized = sized;
     }
 
-pub returns : goal.returns
+pub returns-clause-adds : goal.returns-clause-adds
 unfolding progress_of
-returns c =
+returns-clause-adds c =
     let d = c.args.self.now in
     let here = ltb-true d.thread_count 4 (sym c.if-not-room_for_thread.ensures) in
     let p = progress_of d in
     adds p c.args.words.line (thread_stands p) (thread_form (left c.args.words)) _ thread_line
     (and_from _ _ c.if-is_none.ensures (no_faults d (omega arith)))
-    (rw c.in_ok-end.ensures refl)
+    (rw c.in_ok-end.ensures.ends refl)
     (rw (thread_number d) (sym c.if-not-room_for_thread.ensures))
     (thread_added d c.from.result c.args.words.line c.from.ensures (omega arith))

@@ -5,6 +5,7 @@ use Rattle.listing.specs.declared.draft.Draft.{Draft}
 use Rattle.listing.specs.Code.{blank}
 use Rattle.listing.specs.Limits.{thread_used}
 use Rattle.listing.proofs.Checking.{passed, failed, ended}
+use Rattle.listing.proofs.Failing.{all_pass_within}
 use Rattle.listing.proofs.Finishing.{sized_of}
 use Rattle.listing.proofs.draft.Draft.check_threads_used.Goals as goal
 
@@ -13,8 +14,8 @@ taken d =
     let sized = sized_of d in
     (length-take-le d.thread_count d.thread_lines (omega arith), length-take-le d.thread_count d.threads (omega arith))
 
-pub returns-then-self-thread-eq0 : goal.returns-then-self-thread-eq0
-returns-then-self-thread-eq0 c =
+pub returns-then-self-thread-eq0-clause-checks : goal.returns-then-self-thread-eq0-clause-checks
+returns-then-self-thread-eq0-clause-checks c =
     let d = c.args.self.now in
     let n = d.thread_count in
     let i = c.loop-thread.thread in
@@ -36,9 +37,16 @@ loop-thread-preserved c =
     let used : thread_used (get_or (take n d.threads) i blank) ≡ true = ap thread_used here ∙ le-leb 1 (get_or d.threads i blank).length (omega arith) in
     passed thread_used (take n d.thread_lines) (take n d.threads) i blank _ (omega arith) (omega arith) (sym used) c.loop-thread.invariant
 
-pub returns : goal.returns
-returns c =
+pub returns-clause-checks : goal.returns-clause-checks
+returns-clause-checks c =
     let d = c.args.self.now in
     let n = d.thread_count in
     let lengths = taken d in
     ended thread_used (take n d.thread_lines) (take n d.threads) c.loop-thread.thread _ (omega arith) c.loop-thread.invariant
+
+pub returns-clause-within : goal.returns-clause-within
+returns-clause-within c =
+    let d = c.args.self.now in
+    let n = d.thread_count in
+    let lengths = taken d in
+    all_pass_within thread_used (take n d.thread_lines) (take n d.threads) (omega arith) (returns-clause-checks c)
