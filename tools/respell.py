@@ -3,10 +3,11 @@
 
     python3 tools/respell.py [FOLDER]
 
-Run once, at the top of a checkout whose specs/ and proofs/ still join words by dashes. It renames what specs/*.antt and proofs/*.antt
-declare, the bound variables of specs/, and the names of these in clauses, proofs and the pages of docs/. Names of the library, names that
-Rattle makes of the source, functions of src/, strings, inputs and outputs keep their spelling. It stops where two names that it
-respells would fall together, and says where one falls together with a name that stands already.
+Run once, at the top of a checkout whose specs/ and proofs/ still join words by dashes. It renames what specs/*.antt and proofs/*.antt declare,
+the bound variables of specs/ and the lemmas inside proofs/F/, in all .antt and .rt files, comments and strings too, and in the code spans of
+README.md and docs/*.md. Names of the library, names that Rattle makes of the source and functions of src/ keep their spelling, as do inputs,
+outputs and edits, which it does not read. It prints each name with its new one. It stops where two names that it respells would fall together
+(bound variables are not compared with one another), and says where one falls together with a name that stands already.
 """
 import glob
 import re
@@ -22,10 +23,6 @@ def respelled(name):
     if name[0].isupper():
         return ''.join(p[:1].upper() + p[1:] for p in parts)
     return '_'.join(parts)
-
-
-def code_of(line):
-    return line.split('--')[0] if line.lstrip().startswith('--') else line
 
 
 def main():
