@@ -3,7 +3,7 @@
 
 ghost use Rattle.std.specs.Prelude.{◌≡◌, ◌&&◌, nat_le, nat_lt};
 
-const MOST_BYTES: usize = 4096;
+pub const MOST_BYTES: usize = 4096;
 
 const MOST_THREADS: u8 = 4;
 

@@ -25,6 +25,18 @@ module _ (p : Progress) (n : ℕ) (b : Bool) (s : Says Line) where
   pub adds : (q : Progress) (l : Line) → b ≡ true → s ≡ means l → room p l ≡ true → with_line p n l ≡ q → standing p n b s ≡ Ok q
   adds q l h e m k = rw (h, e, m, k) refl
 
+-- a line that there is room for, or not
+module _ (p : Progress) (n : ℕ) (l : Line) where
+  pub held_full : (r : Refusal) → room p l ≡ false → r ≡ refusal TooMany n → held p n (means l) ≡ Err r
+  held_full r m k = rw (m, k) refl
+
+  pub held_adds : (q : Progress) → room p l ≡ true → with_line p n l ≡ q → held p n (means l) ≡ Ok q
+  held_adds q m k = rw (m, k) refl
+
+  -- where a line may stand and means something, the rule of room is left
+  pub stands_held : (b : Bool) (s : Says Line) → b ≡ true → s ≡ means l → held p n (means l) ≡ standing p n b s
+  stands_held b s h e = rw (h, e) refl
+
 -- what a fault line answers, and what it says
 module _ (p : Progress) (n : ℕ) where
   pub fault_not : (s : Says (List Condition)) (r : Refusal) → Err r ≡ fitted n s → held p n (apply (means fault_line) s) ≡ Err r

@@ -2,12 +2,10 @@
 ghost use Rattle.listing.specs.Examples.{ExamplesRead};
 ghost use Rattle.listing.specs.Laws.{InReach, KnownByLists, ProgramsInReach};
 
-// The number of the laws that its contract names.
-pub fn reading_stands() -> u8
+// Does nothing: its contract names the laws.
+pub fn reading_stands()
     ensures in_reach { InReach }
     ensures programs_in_reach { ProgramsInReach }
     ensures known_by_lists { KnownByLists }
     ensures examples { ExamplesRead }
-{
-    4
-}
+{}

@@ -11,8 +11,7 @@ use crate::draft::Draft;
 use crate::lexer::{first_line, words_of};
 use crate::program::Program;
 use crate::refusal::{Reason, Refusal};
-
-const MOST_BYTES: usize = 4096;
+use limits::MOST_BYTES;
 
 fn read_line(draft: &mut Draft, bytes: &[u8], line: u16) -> Result<(), Refusal>
     ensures declined { IfErr result (Declined line) }

@@ -1,12 +1,12 @@
 // What a line adds to a draft, if it may stand there and there is room for it.
 ghost use Rattle.std.specs.Prelude.{◌≡◌, ◌+◌, ◌<◌, true, [], ◌∷◌, ◌++◌, IfErr};
 ghost use Rattle.listing.specs.declared.refusal.Reason.TheVariants.{TooMany};
-ghost use Rattle.listing.specs.Code.{instructions_of};
+ghost use Rattle.listing.specs.Code.{conditions_of, instructions_of};
 ghost use Rattle.listing.specs.Drafts.{Adds, progress_of};
-ghost use Rattle.listing.specs.Forms.{bound_form, thread_form, instruction_form, fault_form};
-ghost use Rattle.listing.specs.Limits.{thread_fits, thread_sized};
+ghost use Rattle.listing.specs.Forms.{means, thread_line, instruction_line, fault_line as fault_says, bound_form, thread_form, instruction_form, fault_form};
+ghost use Rattle.listing.specs.Limits.{thread_fits, thread_sized, line_fits, line_used, line_sized};
 ghost use Rattle.listing.specs.Lines.{Declined};
-ghost use Rattle.listing.specs.Reading.{nothing, refusal, standing, worded, bound_stands, thread_stands, instruction_stands, fault_stands};
+ghost use Rattle.listing.specs.Reading.{nothing, refusal, held, standing, worded, bound_stands, thread_stands, instruction_stands, fault_stands};
 ghost use Rattle.listing.specs.Taking.{left};
 ghost use Rattle.listing.specs.Values.{instruction_fits};
 
@@ -17,7 +17,7 @@ use crate::lines::{bound, fault_line, instruction, no_form};
 use crate::refusal::{Reason, Refusal};
 use limits::{room_for_fault, room_for_instruction, room_for_thread};
 
-pub(crate) fn too_many(line: u16) -> Refusal
+fn too_many(line: u16) -> Refusal
     ensures { result ≡ refusal TooMany line }
 {
     Refusal {
@@ -26,7 +26,7 @@ pub(crate) fn too_many(line: u16) -> Refusal
     }
 }
 
-pub(crate) fn with_instruction(code: ThreadCode, instruction: Instruction) -> ThreadCode
+fn with_instruction(code: ThreadCode, instruction: Instruction) -> ThreadCode
     requires room { code.length < 16 }
     requires fits { thread_fits code ≡ true }
     requires value { instruction_fits instruction ≡ true }
@@ -39,6 +39,62 @@ pub(crate) fn with_instruction(code: ThreadCode, instruction: Instruction) -> Th
     longer.instructions[usize::from(code.length)] = instruction;
     longer.length += 1;
     longer
+}
+
+impl Draft {
+    // The draft with one thread more, if there is room for it.
+    pub(crate) fn push_thread(&mut self, line: u16) -> Result<(), Refusal>
+        ensures declined { IfErr result (Declined line) }
+        ensures adds { Adds (held (progress_of self.old) line (means thread_line)) self.new result }
+    {
+        if !room_for_thread(self.thread_count) {
+            return Err(too_many(line));
+        }
+        self.thread_lines[usize::from(self.thread_count)] = line;
+        self.thread_count += 1;
+        Ok(())
+    }
+
+    // Its last thread with one instruction more.
+    pub(crate) fn push_instruction(
+        &mut self,
+        instruction: Instruction,
+        line: u16,
+    ) -> Result<(), Refusal>
+        requires some { 0 < self.old.thread_count }
+        requires value { instruction_fits instruction ≡ true }
+        ensures declined { IfErr result (Declined line) }
+        ensures adds { Adds (held (progress_of self.old) line (means (instruction_line instruction))) self.new result }
+    {
+        let thread = usize::from(self.thread_count) - 1;
+        let code = self.threads[thread];
+        if !room_for_instruction(code.length, self.instruction_count) {
+            return Err(too_many(line));
+        }
+        let place = usize::from(code.length);
+        self.threads[thread] = with_instruction(code, instruction);
+        self.instruction_lines[thread][place] = line;
+        self.instruction_count += 1;
+        Ok(())
+    }
+
+    // The draft with one fault line more.
+    pub(crate) fn push_fault(&mut self, fault: FaultLine, line: u16) -> Result<(), Refusal>
+        requires fits { line_fits fault ≡ true }
+        requires used { line_used fault ≡ true }
+        requires sized { line_sized fault ≡ true }
+        ensures declined { IfErr result (Declined line) }
+        ensures adds { Adds (held (progress_of self.old) line (means (fault_says (conditions_of fault)))) self.new result }
+    {
+        if !room_for_fault(self.fault_count) {
+            return Err(too_many(line));
+        }
+        let place = usize::from(self.fault_count);
+        self.faults[place] = fault;
+        self.fault_lines[place] = line;
+        self.fault_count += 1;
+        Ok(())
+    }
 }
 
 impl Draft {
@@ -89,12 +145,7 @@ impl Draft {
             return Err(no_form(line));
         }
         words.end()?;
-        if !room_for_thread(self.thread_count) {
-            return Err(too_many(line));
-        }
-        self.thread_lines[usize::from(self.thread_count)] = line;
-        self.thread_count += 1;
-        Ok(())
+        self.push_thread(line)
     }
 
     fn add_instruction(&mut self, mnemonic: &[u8], words: Words<'_>) -> Result<(), Refusal>
@@ -106,16 +157,7 @@ impl Draft {
             return Err(no_form(line));
         }
         let instruction = instruction(words.instruction(mnemonic)?, line)?;
-        let thread = usize::from(self.thread_count) - 1;
-        let code = self.threads[thread];
-        if !room_for_instruction(code.length, self.instruction_count) {
-            return Err(too_many(line));
-        }
-        let place = usize::from(code.length);
-        self.threads[thread] = with_instruction(code, instruction);
-        self.instruction_lines[thread][place] = line;
-        self.instruction_count += 1;
-        Ok(())
+        self.push_instruction(instruction, line)
     }
 
     fn add_fault(&mut self, words: Words<'_>) -> Result<(), Refusal>
@@ -127,14 +169,7 @@ impl Draft {
             return Err(no_form(line));
         }
         let fault = fault_line(words)?;
-        if !room_for_fault(self.fault_count) {
-            return Err(too_many(line));
-        }
-        let place = usize::from(self.fault_count);
-        self.faults[place] = fault;
-        self.fault_lines[place] = line;
-        self.fault_count += 1;
-        Ok(())
+        self.push_fault(fault, line)
     }
 
     // Adds what a line says by its first word and the rest; a line without words says nothing.

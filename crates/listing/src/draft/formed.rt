@@ -3,11 +3,9 @@ ghost use Rattle.std.specs.Prelude.{◌≡◌, IfErr};
 ghost use Rattle.listing.specs.Lines.{Declined, stands_on};
 
 use crate::draft::Draft;
-use crate::draft::adding::{too_many, with_instruction};
 use crate::lexer::Words;
 use crate::lines::{Line, WrittenInstruction, bound, fault_line, instruction, no_form};
 use crate::refusal::Refusal;
-use limits::{room_for_fault, room_for_instruction, room_for_thread};
 
 impl Draft {
     fn take_bound(&mut self, digits: &[u8], line: u16) -> Result<(), Refusal>
@@ -27,12 +25,7 @@ impl Draft {
         if self.bound.is_none() || self.fault_count > 0 {
             return Err(no_form(line));
         }
-        if !room_for_thread(self.thread_count) {
-            return Err(too_many(line));
-        }
-        self.thread_lines[usize::from(self.thread_count)] = line;
-        self.thread_count += 1;
-        Ok(())
+        self.push_thread(line)
     }
 
     fn take_instruction(
@@ -46,16 +39,7 @@ impl Draft {
             return Err(no_form(line));
         }
         let instruction = instruction(written, line)?;
-        let thread = usize::from(self.thread_count) - 1;
-        let code = self.threads[thread];
-        if !room_for_instruction(code.length, self.instruction_count) {
-            return Err(too_many(line));
-        }
-        let place = usize::from(code.length);
-        self.threads[thread] = with_instruction(code, instruction);
-        self.instruction_lines[thread][place] = line;
-        self.instruction_count += 1;
-        Ok(())
+        self.push_instruction(instruction, line)
     }
 
     fn take_fault(&mut self, words: Words<'_>, line: u16) -> Result<(), Refusal>
@@ -65,14 +49,7 @@ impl Draft {
             return Err(no_form(line));
         }
         let fault = fault_line(words)?;
-        if !room_for_fault(self.fault_count) {
-            return Err(too_many(line));
-        }
-        let place = usize::from(self.fault_count);
-        self.faults[place] = fault;
-        self.fault_lines[place] = line;
-        self.fault_count += 1;
-        Ok(())
+        self.push_fault(fault, line)
     }
 
     // Adds what a line says, if it may stand here and there is room for it.

@@ -1,19 +1,12 @@
-use Rattle.std.proofs.Common.{◌≡◌, ◌+◌, ◌-◌, false, eqb, [], length, get_or, set, sym, refl, ◌∙◌, arith}
-use Rattle.std.proofs.lemmas.List.{length-set}
+use Rattle.std.proofs.Common.{subst, ◌≡◌, false, refl, ◌∙◌, arith}
 use Rattle.std.proofs.lemmas.Result.{err_from_is_err_and}
-use Rattle.std.proofs.lemmas.Bool.{and_parts, and_left, and_right, le-ltb, ltb-true, eq-eqb}
-use Rattle.listing.specs.Code.{blank}
-use Rattle.listing.specs.Drafts.{progress_of}
+use Rattle.std.proofs.lemmas.Bool.{and_left, and_right, le-ltb}
+use Rattle.listing.specs.Drafts.{Adds, progress_of}
 use Rattle.listing.specs.Forms.{instruction_line, instruction_form}
-use Rattle.listing.specs.Limits.{total, thread_fits, thread_unused, thread_sized}
-use Rattle.listing.proofs.Whole.{thread_parted}
 use Rattle.listing.specs.Reading.{instruction_stands}
 use Rattle.listing.specs.Taking.{left}
-use Rattle.listing.proofs.Drafted.{some_threads, with_faults, instruction_here, instruction_number, last_inside, last_fits, last_number, lines_sized, line_rooms, parts_stay, lines_stay, instruction_added}
-use Rattle.listing.proofs.Kept.{all_set, past_set, total_set}
-use Rattle.listing.proofs.ReadFits.{instruction_read_fits}
-use Rattle.listing.proofs.Stands.{stands_not, ranges_not, full, adds}
-use Rattle.listing.proofs.Rooms.{rooms, sized_from}
+use Rattle.listing.proofs.Drafted.{some_threads, with_faults, instruction_here}
+use Rattle.listing.proofs.Stands.{stands_not, ranges_not, stands_held}
 use Rattle.listing.proofs.draft.Draft.add_instruction.Goals as goal
 use Rattle.listing.proofs.draft.Draft.add_instruction.Goals.{then-self-eq0-via-then-self-eq0, then-self-eq0-via-else-self-eq0+then-self-gt0}
 
@@ -39,75 +32,13 @@ returns-in_err-instruction-2-clause-adds c =
     (ranges_not p c.args.words.line (instruction_stands p) (instruction_form c.args.mnemonic.now (left c.args.words)) c.in_err-instruction-2.field-0.0
     (instruction_here d (omega arith) (omega arith)) (rw (says, told.0) refl) told.1)
 
-pub returns-then-not-room_for_instruction-clause-adds : goal.returns-then-not-room_for_instruction-clause-adds
-returns-then-not-room_for_instruction-clause-adds c =
-    let d = c.args.self.now in
-    let p = progress_of d in
-    let at = c.from-thread.result - 1 in
-    let last : d.thread_count ≡ at + 1 = omega arith in
-    let i = c.in_ok-instruction-2.instruction in
-    let says = c.in_ok-instruction.ensures in
-    full p c.args.words.line (instruction_stands p) (instruction_form c.args.mnemonic.now (left c.args.words)) c.too_many.result (instruction_line i)
-    (instruction_here d (omega arith) (omega arith)) (rw (says, c.in_ok-instruction-2.ensures.read) refl)
-    (rw (last_number d at last, instruction_number d) (sym c.if-not-room_for_instruction.ensures)) c.too_many.ensures
-
-pub with_instruction-requires : goal.with_instruction-requires
-with_instruction-requires c =
-    let d = c.args.self.now in
-    let at = c.from-thread.result - 1 in
-    let here = ltb-true (get_or d.threads at blank).length 16 (and_parts _ _ (sym c.if-not-room_for_instruction.ensures)).0 in
-    let last : d.thread_count ≡ at + 1 = omega arith in
-    let parted = thread_parted (get_or d.threads at blank) (last_fits d at last) in
-    record {
-      room = here;
-      fits = parted.0;
-      value = instruction_read_fits c.in_ok-instruction.field-0 c.in_ok-instruction-2.instruction c.in_ok-instruction-2.ensures.read;
-    }
-
-pub invariant_of-self : goal.invariant_of-self
-invariant_of-self c =
-    let d = c.args.self.now in
-    let at = c.from-thread.result - 1 in
-    let here = ltb-true d.instruction_count 32 (and_parts _ _ (sym c.if-not-room_for_instruction.ensures)).1 in
-    let last : d.thread_count ≡ at + 1 = omega arith in
-    let inside = last_inside d at last in
-    let longer = c.with_instruction.result in
-    let fit = all_set thread_fits d.threads at longer d.threads_fit c.with_instruction.ensures.fits in
-    let counted : d.instruction_count + 1 ≡ total (set d.threads at longer) = omega (arith, total_set d.threads at blank longer inside, c.with_instruction.ensures.longer, d.counted) in
-    let unused = past_set thread_unused d.threads d.thread_count d.thread_count at longer (omega arith) (omega arith) d.threads_end in
-    let room = rooms d.threads d.faults d.parts_sized in
-    let parts = sized_from (set d.threads at longer) d.faults (parts_stay d.threads (set d.threads at longer) d.faults d.faults (length-set _ _ _) refl room.parts) (all_set thread_sized d.threads at longer room.threads c.with_instruction.ensures.sized) room.lines in
-    let new = set (get_or d.instruction_lines at []) c.from-place.result c.args.words.line in
-    let each = all_set (λ ns. eqb (length ns) 16) d.instruction_lines at new (line_rooms d).each (eq-eqb _ 16 (length-set _ _ _ ∙ lines_sized d at last)) in
-    let sized = lines_stay d.thread_lines d.thread_lines d.instruction_lines (set d.instruction_lines at new) d.fault_lines d.fault_lines refl (length-set _ _ _) refl each d.lines_sized in
-    record {
-      bounded = d.bounded;
-      few_threads = d.few_threads;
-      threads_fit = fit;
-      counted = counted;
-      few_instructions = omega arith;
-      threads_end = unused;
-      few_faults = d.few_faults;
-      faults_fit = d.faults_fit;
-      faults_used = d.faults_used;
-      faults_end = d.faults_end;
-      parts_sized = parts;
-      lines_sized = sized;
-    }
-
 pub returns-clause-adds : goal.returns-clause-adds
 unfolding progress_of
 returns-clause-adds c =
     let d = c.args.self.now in
     let p = progress_of d in
-    let at = c.from-thread.result - 1 in
-    let last : d.thread_count ≡ at + 1 = omega arith in
     let i = c.in_ok-instruction-2.instruction in
     let says = c.in_ok-instruction.ensures in
-    let code = get_or d.threads at blank in
-    let here = ltb-true code.length 16 (and_parts _ _ (sym c.if-not-room_for_instruction.ensures)).0 in
-    adds p c.args.words.line (instruction_stands p) (instruction_form c.args.mnemonic.now (left c.args.words)) _ (instruction_line i)
-    (instruction_here d (omega arith) (omega arith))
-    (rw (says, c.in_ok-instruction-2.ensures.read) refl)
-    (rw (last_number d at last, instruction_number d) (sym c.if-not-room_for_instruction.ensures))
-    (instruction_added d at last c.from-place.result c.args.words.line c.with_instruction.result i c.from-place.ensures (omega (arith, here, c.from-place.ensures)) c.with_instruction.ensures.longer c.with_instruction.ensures.instructions)
+    subst (λ s. Adds s c.push_instruction.new.self c.push_instruction.result)
+    (stands_held p c.args.words.line (instruction_line i) (instruction_stands p) (instruction_form c.args.mnemonic.now (left c.args.words)) (instruction_here d (omega arith) (omega arith)) (rw (says, c.in_ok-instruction-2.ensures.read) refl))
+    c.push_instruction.ensures.adds

@@ -2,12 +2,23 @@ use Rattle.std.proofs.Common.{◌≡◌, ◌+◌, ◌-◌, eqb, [], length, get_
 use Rattle.std.proofs.lemmas.List.{length-set}
 use Rattle.std.proofs.lemmas.Bool.{and_parts, ltb-true, eq-eqb}
 use Rattle.listing.specs.Code.{blank}
+use Rattle.listing.specs.Drafts.{progress_of}
+use Rattle.listing.specs.Forms.{instruction_line}
 use Rattle.listing.specs.Limits.{total, thread_fits, thread_unused, thread_sized}
 use Rattle.listing.proofs.Whole.{thread_parted}
-use Rattle.listing.proofs.Drafted.{last_inside, last_fits, lines_sized, line_rooms, parts_stay, lines_stay}
+use Rattle.listing.proofs.Drafted.{instruction_number, last_inside, last_fits, last_number, lines_sized, line_rooms, parts_stay, lines_stay, instruction_added}
 use Rattle.listing.proofs.Kept.{all_set, past_set, total_set}
+use Rattle.listing.proofs.Stands.{held_full, held_adds}
 use Rattle.listing.proofs.Rooms.{rooms, sized_from}
-use Rattle.listing.proofs.draft.Draft.take_instruction.Goals as goal
+use Rattle.listing.proofs.draft.Draft.push_instruction.Goals as goal
+
+pub returns-then-not-room_for_instruction-clause-adds : goal.returns-then-not-room_for_instruction-clause-adds
+returns-then-not-room_for_instruction-clause-adds c =
+    let d = c.args.self.now in
+    let at = c.from-thread.result - 1 in
+    let last : d.thread_count ≡ at + 1 = omega arith in
+    held_full (progress_of d) c.args.line (instruction_line c.args.instruction) c.too_many.result
+    (rw (last_number d at last, instruction_number d) (sym c.if-not-room_for_instruction.ensures)) c.too_many.ensures
 
 pub with_instruction-requires : goal.with_instruction-requires
 with_instruction-requires c =
@@ -19,7 +30,7 @@ with_instruction-requires c =
     record {
       room = here;
       fits = parted.0;
-      value = c.in_ok-instruction.ensures.value.1;
+      value = c.requires.value;
     }
 
 pub invariant_of-self : goal.invariant_of-self
@@ -52,3 +63,16 @@ invariant_of-self c =
       parts_sized = parts;
       lines_sized = sized;
     }
+
+pub returns-clause-adds : goal.returns-clause-adds
+unfolding progress_of
+returns-clause-adds c =
+    let d = c.args.self.now in
+    let at = c.from-thread.result - 1 in
+    let last : d.thread_count ≡ at + 1 = omega arith in
+    let i = c.args.instruction in
+    let code = get_or d.threads at blank in
+    let here = ltb-true code.length 16 (and_parts _ _ (sym c.if-not-room_for_instruction.ensures)).0 in
+    held_adds (progress_of d) c.args.line (instruction_line i) _
+    (rw (last_number d at last, instruction_number d) (sym c.if-not-room_for_instruction.ensures))
+    (instruction_added d at last c.from-place.result c.args.line c.with_instruction.result i c.from-place.ensures (omega (arith, here, c.from-place.ensures)) c.with_instruction.ensures.longer c.with_instruction.ensures.instructions)
