@@ -3,9 +3,19 @@ ghost use Rattle.std.specs.Prelude.{◌≡◌, ℕ, ◌+◌, ◌-◌, ◌^◌, �
 ghost use Rattle.std.specs.Int.Bits.{bit_or};
 ghost use Rattle.machines.specs.Places.{has, adding, removing, first_places, from_place, lowest};
 
+use few::Filler;
+
 #[derive(Clone, Copy, PartialEq, Eq)]
 pub struct Placement {
     pub mask: u32,
+}
+
+impl Filler for Placement {
+    ghost filler = { record { mask = 0 } };
+
+    fn filler() -> Self {
+        Placement { mask: 0 }
+    }
 }
 
 impl Placement {
