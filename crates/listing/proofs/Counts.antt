@@ -1,6 +1,6 @@
 -- Counts from one number to another, and lists that have an element. Assumes nothing.
-use Rattle.std.proofs.Common.{◌≡◌, ℕ, ◌≤◌, true, not, leb, List, [], ◌∷◌, ◌++◌, length, refl, arith}
-use Rattle.std.proofs.lemmas.Bool.{and_parts, and_from, leb-true, le-leb}
+use Rattle.std.proofs.Common.{sym, ap, ◌∙◌, false, Bool, ◌≡◌, ℕ, ◌≤◌, true, not, eqb, leb, List, [], ◌∷◌, ◌++◌, length, refl, arith}
+use Rattle.std.proofs.lemmas.Bool.{and_parts, and_from, leb-true, le-leb, ne_eqb, not_from_false}
 use Rattle.listing.specs.Limits.{between}
 use Rattle.listing.specs.Reading.{some}
 
@@ -25,3 +25,10 @@ none_there (x ∷ xs) h = cc
 pub some_last : {X : Type 0} (xs : List X) (x : X) → some (xs ++ x ∷ []) ≡ true
 some_last [] x = refl
 some_last (y ∷ xs) x = refl
+
+pub some_counted : {X : Type 0} (xs : List X) → not (eqb (length xs) 0) ≡ some xs
+some_counted [] = refl
+some_counted (x ∷ xs) = not_from_false _ (ne_eqb (length (x ∷ xs)) 0 (λ e. omega arith))
+
+pub some_by_count : {X : Type 0} (xs : List X) (b : Bool) → eqb (length xs) 0 ≡ b → some xs ≡ not b
+some_by_count xs b h = sym (some_counted xs) ∙ ap not h

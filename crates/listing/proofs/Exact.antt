@@ -10,7 +10,6 @@ use Rattle.listing.specs.Words.{lines}
 use Rattle.listing.proofs.ByWords.{read_by_words, read_permitted}
 use Rattle.listing.proofs.Laid.{laid_words, laid_permitted, words_laid}
 use Rattle.listing.proofs.PlainText.{plain_text, plain_spells, plain_short}
-use Rattle.listing.proofs.ProgramLimits.{program_keeps}
 use Rattle.listing.proofs.Results.{passed}
 use Rattle.listing.proofs.SpelledWords.{spelled_words}
 use Rattle.listing.proofs.WordLines.{word_lines, with_words}
@@ -50,4 +49,4 @@ pub in_reach : InReach
 in_reach c limits = (plain_text c, spells_read (plain_text c) c (plain_short c limits) (plain_spells c limits))
 
 pub programs_in_reach : ProgramsInReach
-programs_in_reach p = in_reach (code_of p) (program_keeps p)
+programs_in_reach p = in_reach (code_of p) p.ok

@@ -8,8 +8,8 @@ use Rattle.listing.specs.declared.refusal.Refusal.{Refusal}
 use Rattle.listing.specs.Code.{Code}
 use Rattle.listing.specs.Forms.{Says, no_form, out_of_range, means, Line, form}
 use Rattle.listing.specs.Laws.{FirstBroken, formless, unranged, crowded, formless_words, unranged_words, crowded_words, Fine, FirstFailing, jumps_there, FirstJumpAstray, Wrong, too_long, broken_line, empty_thread, lacking, jump_astray, fault_astray, FirstWrong, OneOrOther}
-use Rattle.listing.specs.Limits.{all, jump_within}
-use Rattle.listing.specs.Reading.{reading, refusal, Progress, nothing, some, may_stand, room, with_line, held, worded, line, read_lines, first_failing, or_else, jump_failing, condition_there, targeted, complete, filled, finished, after_lines}
+use Rattle.listing.specs.Limits.{all, jump_within, condition_there}
+use Rattle.listing.specs.Reading.{reading, refusal, Progress, nothing, some, may_stand, room, with_line, held, worded, line, read_lines, first_failing, or_else, jump_failing, targeted, complete, filled, finished, after_lines}
 use Rattle.listing.specs.Spelling.{Pairwise}
 use Rattle.listing.specs.Words.{permitted, content_of, words, lines}
 use Rattle.listing.proofs.Failing.{all_pass, all_jumps_pass}

@@ -1,18 +1,18 @@
 -- The conditions of a fault line, gathered one by one. Assumes nothing.
-use Rattle.std.proofs.Common.{◌≡◌, ℕ, ◌<◌, ◌≤◌, min, Bool, true, false, cond, ltb, leb, List, [], ◌∷◌, ◌++◌, length, take, None, Ok, Err, codes, Option, sym, refl, ap, ◌∙◌, subst, arith}
+use Rattle.std.proofs.Common.{◌≡◌, ℕ, ◌+◌, ◌<◌, ◌≤◌, min, Bool, true, false, cond, leb, List, [], ◌∷◌, ◌++◌, length, take, Some, None, Ok, Err, codes, Option, sym, refl, ap, ◌∙◌, subst, arith}
 use Rattle.std.proofs.lemmas.List.{append-nil, append_assoc, length_push, length-take, take_all, take-append-le, nil_from_length}
-use Rattle.std.proofs.lemmas.Bool.{lt-ltb, le-ltb, le-leb, lt-leb, cond-true, cond-false, ltb-true, ltb-false}
+use Rattle.std.proofs.lemmas.Bool.{le-leb, lt-leb, cond-true, cond-false}
+use Rattle.std.specs.Option.{option_or}
 use Rattle.listing.specs.declared.code.Condition.{Condition}
 use Rattle.listing.specs.declared.code.Condition.TheVariants as condition
-use Rattle.listing.specs.declared.code.FaultLine.{FaultLine}
 use Rattle.listing.specs.declared.lexer.Words.{Words}
 use Rattle.listing.specs.declared.lines.WrittenCondition.{WrittenCondition}
-use Rattle.listing.specs.declared.refusal.Reason.TheVariants.{TooMany}
-use Rattle.listing.specs.Code.{conditions_of}
+use Rattle.listing.specs.declared.refusal.Reason.{Reason}
+use Rattle.listing.specs.declared.refusal.Reason.TheVariants.{NumberOutOfRange, TooMany}
 use Rattle.listing.specs.Forms.{Says, no_form, out_of_range, means, apply, register, target, thread, value, variable, rest, two, three, more, conditions, all_conditions, fault}
 use Rattle.listing.specs.Names.{same_word}
 use Rattle.listing.specs.Reading.{refusal}
-use Rattle.listing.specs.Taking.{TookCondition, fitted, left}
+use Rattle.listing.specs.Taking.{TookCondition, condition_read, fitted, left, said}
 
 -- what is said with conditions before it, one of which may be out of range
 abbrev prefixed : Bool → List Condition → Says (List Condition) → Says (List Condition)
@@ -81,91 +81,141 @@ fault_is (w ∷ ws) s some h = h
 fault_none : (ws : List (List ℕ)) → all_conditions ws ≡ means [] → fault ws ≡ no_form
 fault_none ws h = ap fault (none_said ws h)
 
--- what has been gathered from the words ws while vs are left: the first six conditions, whether all are in range, and whether there are more than six
-pub record Gathering (ws vs : List (List ℕ)) (line : FaultLine) (ranged crowded : Bool) : Type 0 where
-  pub so_far : List Condition
-  pub whole : all_conditions ws ≡ prefixed ranged so_far (all_conditions vs)
-  pub held : conditions_of line ≡ take 6 so_far
-  pub count : crowded ≡ ltb 6 (length so_far)
+-- a condition before words that are no conditions
+more_formless : (x : Says Condition) → more x no_form ≡ no_form
+more_formless no_form = refl
+more_formless out_of_range = refl
+more_formless (means x) = refl
 
-module _ (ws vs us : List (List ℕ)) (line : FaultLine) (ranged crowded : Bool) (g : Gathering ws vs line ranged crowded) where
-  taken_length : length (conditions_of line) ≡ min 6 (length g.so_far)
+pub formless_before : (w v : Words) (c : WrittenCondition) → TookCondition w v (Ok (Some c)) → all_conditions (left v) ≡ no_form → all_conditions (left w) ≡ no_form
+formless_before w v c took none = took.1.1 ∙ ap (more (said (condition_read c))) none ∙ more_formless (said (condition_read c))
+
+pub formless_fault : (ws : List (List ℕ)) → all_conditions ws ≡ no_form → fault ws ≡ no_form
+formless_fault ws none = fault_is ws no_form (λ e. let z : ◌≡◌ {A = ℕ} 0 1 = cc in omega arith) none
+
+-- what is wrong with the conditions so far, whether all are in range, and how many there are
+pub data Found : Option Reason → Bool → ℕ → Type 0 where
+  nothing_wrong : {n : ℕ} → n ≤ 6 → Found None true n
+  crowded : {n : ℕ} → 6 < n → Found (Some TooMany) true n
+  unranged : {n : ℕ} → Found (Some NumberOutOfRange) false n
+
+-- what has been gathered from the words ws while vs are left: the first six conditions, and what is wrong with them
+pub record Gathering (ws vs : List (List ℕ)) (line : List Condition) (wrong : Option Reason) : Type 0 where
+  pub so_far : List Condition
+  pub ranged : Bool
+  pub whole : all_conditions ws ≡ prefixed ranged so_far (all_conditions vs)
+  pub held : line ≡ take 6 so_far
+  pub found : Found wrong ranged (length so_far)
+
+-- one condition more is kept, or is one too many
+found_kept : (wrong : Option Reason) (ranged : Bool) (n m : ℕ) → n < 6 → m ≡ n + 1 → Found wrong ranged n → Found wrong ranged m
+found_kept wrong ranged n m few e (nothing_wrong h) = nothing_wrong (omega arith)
+found_kept wrong ranged n m few e (crowded h) = absurd (omega arith)
+found_kept wrong ranged n m few e unranged = unranged
+
+found_past : (wrong : Option Reason) (ranged : Bool) (n m : ℕ) → 6 ≤ n → m ≡ n + 1 → Found wrong ranged n → Found (option_or wrong (Some TooMany)) ranged m
+found_past wrong ranged n m many e (nothing_wrong h) = crowded (omega arith)
+found_past wrong ranged n m many e (crowded h) = crowded (omega arith)
+found_past wrong ranged n m many e unranged = unranged
+
+module _ (ws vs us : List (List ℕ)) (line : List Condition) (wrong : Option Reason) (g : Gathering ws vs line wrong) where
+  taken_length : length line ≡ min 6 (length g.so_far)
   taken_length = ap length g.held ∙ length-take 6 g.so_far
 
-  pub gather_kept : (c : Condition) (longer : FaultLine) → all_conditions vs ≡ more (means c) (all_conditions us) → length (conditions_of line) < 6 → conditions_of longer ≡ conditions_of line ++ c ∷ [] → Gathering ws us longer ranged crowded
+  pub gather_kept : (c : Condition) (longer : List Condition) → all_conditions vs ≡ more (means c) (all_conditions us) → length line < 6 → longer ≡ line ++ c ∷ [] → Gathering ws us longer wrong
   gather_kept c longer says few is =
       let short : length g.so_far < 6 = omega (arith, taken_length) in
       let pushed = length_push g.so_far c in
       record {
         so_far = g.so_far ++ c ∷ [];
-        whole = g.whole ∙ ap (prefixed ranged g.so_far) says ∙ prefixed_more ranged g.so_far c (all_conditions us);
+        ranged = g.ranged;
+        whole = g.whole ∙ ap (prefixed g.ranged g.so_far) says ∙ prefixed_more g.ranged g.so_far c (all_conditions us);
         held =
             is ∙ ap (λ cs. cs ++ c ∷ []) (g.held ∙ take_all 6 g.so_far (omega arith))
             ∙ sym (take_all 6 (g.so_far ++ c ∷ []) (omega (arith, pushed)));
-        count = g.count ∙ le-ltb 6 (length g.so_far) (omega arith) ∙ sym (le-ltb 6 (length (g.so_far ++ c ∷ [])) (omega (arith, pushed)));
+        found = found_kept wrong g.ranged (length g.so_far) (length (g.so_far ++ c ∷ [])) short pushed g.found;
       }
 
-  pub gather_past : (c : Condition) → all_conditions vs ≡ more (means c) (all_conditions us) → 6 ≤ length (conditions_of line) → Gathering ws us line ranged true
+  pub gather_past : (c : Condition) → all_conditions vs ≡ more (means c) (all_conditions us) → 6 ≤ length line → Gathering ws us line (option_or wrong (Some TooMany))
   gather_past c says full =
       let long : 6 ≤ length g.so_far = omega (arith, taken_length) in
       record {
         so_far = g.so_far ++ c ∷ [];
-        whole = g.whole ∙ ap (prefixed ranged g.so_far) says ∙ prefixed_more ranged g.so_far c (all_conditions us);
+        ranged = g.ranged;
+        whole = g.whole ∙ ap (prefixed g.ranged g.so_far) says ∙ prefixed_more g.ranged g.so_far c (all_conditions us);
         held = g.held ∙ sym (take-append-le 6 g.so_far (c ∷ []) long);
-        count = sym (lt-ltb 6 (length (g.so_far ++ c ∷ [])) (omega (arith, length_push g.so_far c)));
+        found = found_past wrong g.ranged (length g.so_far) (length (g.so_far ++ c ∷ [])) long (length_push g.so_far c) g.found;
       }
 
-  pub gather_out : all_conditions vs ≡ more out_of_range (all_conditions us) → Gathering ws us line false crowded
+  pub gather_out : all_conditions vs ≡ more out_of_range (all_conditions us) → Gathering ws us line (Some NumberOutOfRange)
   gather_out says =
       record {
         so_far = g.so_far;
-        whole = g.whole ∙ ap (prefixed ranged g.so_far) says ∙ prefixed_out ranged g.so_far (all_conditions us);
+        ranged = false;
+        whole = g.whole ∙ ap (prefixed g.ranged g.so_far) says ∙ prefixed_out g.ranged g.so_far (all_conditions us);
         held = g.held;
-        count = g.count;
+        found = unranged;
       }
 
   pub gather_formless : all_conditions vs ≡ no_form → fault ws ≡ no_form
   gather_formless none =
       fault_is ws no_form (λ e. let z : ◌≡◌ {A = ℕ} 0 1 = cc in omega arith)
-      (g.whole ∙ ap (prefixed ranged g.so_far) none ∙ prefixed_formless ranged g.so_far)
+      (g.whole ∙ ap (prefixed g.ranged g.so_far) none ∙ prefixed_formless g.ranged g.so_far)
 
-pub gather_start : (ws : List (List ℕ)) (line : FaultLine) → conditions_of line ≡ [] → Gathering ws ws line true false
-gather_start ws line none = record { so_far = []; whole = prefixed_none (all_conditions ws); held = none; count = refl }
+pub gather_start : (ws : List (List ℕ)) (line : List Condition) → line ≡ [] → Gathering ws ws line None
+gather_start ws line none = record { so_far = []; ranged = true; whole = prefixed_none (all_conditions ws); held = none; found = nothing_wrong (omega arith) }
 
-pub gather_ended : (ws : List (List ℕ)) (w v : Words) (o : Option WrittenCondition) (line : FaultLine) (ranged crowded : Bool) → TookCondition w v (Ok o) → o ≡ None → Gathering ws (left w) line ranged crowded → Gathering ws [] line ranged crowded
-gather_ended ws w v o line ranged crowded took none g =
-    subst (λ vs. Gathering ws vs line ranged crowded) (subst (λ x. TookCondition w v (Ok x)) none took).1 g
+pub gather_ended : (ws : List (List ℕ)) (w v : Words) (o : Option WrittenCondition) (line : List Condition) (wrong : Option Reason) → TookCondition w v (Ok o) → o ≡ None → Gathering ws (left w) line wrong → Gathering ws [] line wrong
+gather_ended ws w v o line wrong took none g =
+    subst (λ vs. Gathering ws vs line wrong) (subst (λ x. TookCondition w v (Ok x)) none took).1 g
 
 -- nothing is left
-module _ (ws : List (List ℕ)) (line : FaultLine) where
-  at_end : (ranged crowded : Bool) (g : Gathering ws [] line ranged crowded) → all_conditions ws ≡ cond ranged (means g.so_far) out_of_range
+module _ (ws : List (List ℕ)) (line : List Condition) where
+  at_end : (wrong : Option Reason) (g : Gathering ws [] line wrong) → all_conditions ws ≡ cond g.ranged (means g.so_far) out_of_range
   unfolding conditions
-  at_end true crowded g = g.whole ∙ ap means (append-nil g.so_far)
-  at_end false crowded g = g.whole
+  at_end wrong g = g.whole ∙ ended g.ranged
+    where
+      ended : (b : Bool) → prefixed b g.so_far (means []) ≡ cond b (means g.so_far) out_of_range
+      ended true = ap means (append-nil g.so_far)
+      ended false = refl
 
-  pub unranged_end : (crowded : Bool) → Gathering ws [] line false crowded → fault ws ≡ out_of_range
-  unranged_end crowded g = fault_is ws out_of_range (λ e. let z : ◌≡◌ {A = ℕ} 0 1 = cc in omega arith) (at_end false crowded g)
-
-  pub none_end : (crowded : Bool) → Gathering ws [] line true crowded → length (conditions_of line) ≡ 0 → fault ws ≡ no_form
-  none_end crowded g none =
-      let empty : length g.so_far ≡ 0 = omega (arith, ap length g.held ∙ length-take 6 g.so_far) in
-      fault_none ws (at_end true crowded g ∙ ap means (nil_from_length g.so_far empty))
-
-  some_end : (crowded : Bool) (g : Gathering ws [] line true crowded) → 0 < length (conditions_of line) → fault ws ≡ means g.so_far
-  some_end crowded g some =
-      let filled : 0 < length g.so_far = omega (arith, ap length g.held ∙ length-take 6 g.so_far) in
-      fault_is ws (means g.so_far) (λ e. not_empty g.so_far filled e) (at_end true crowded g)
+  some_end : (wrong : Option Reason) (g : Gathering ws [] line wrong) → g.ranged ≡ true → 0 < length g.so_far → fault ws ≡ means g.so_far
+  some_end wrong g fit filled =
+      fault_is ws (means g.so_far) (λ e. not_empty g.so_far filled e) (at_end wrong g ∙ ap (λ b. cond b (means g.so_far) out_of_range) fit)
     where
       not_empty : (cs : List Condition) → 0 < length cs → means cs ≡ means [] → ⊥
       not_empty [] h e = omega arith
       not_empty (c ∷ cs) h e = let z : ◌≡◌ {A = ℕ} 0 1 = cc in omega arith
 
-  pub crowded_end : (n : ℕ) → Gathering ws [] line true true → 0 < length (conditions_of line) → fitted n (fault ws) ≡ Err (refusal TooMany n)
-  crowded_end n g some =
-      ap (fitted n) (some_end true g some) ∙ cond-false (leb (length g.so_far) 6) _ _ (lt-leb (length g.so_far) 6 (ltb-true 6 (length g.so_far) (sym g.count)))
+  pub wrong_end : (n : ℕ) (why : Reason) → Gathering ws [] line (Some why) → fitted n (fault ws) ≡ Err (refusal why n)
+  wrong_end n why g = by g.ranged (Some why) (length g.so_far) refl refl refl g.found
+    where
+      by : (b : Bool) (o : Option Reason) (m : ℕ) → b ≡ g.ranged → o ≡ Some why → m ≡ length g.so_far → Found o b m → fitted n (fault ws) ≡ Err (refusal why n)
+      by b o m e f k (nothing_wrong h) = cc
+      by b o m e f k (crowded h) =
+          let is : why ≡ TooMany = cc in
+          rw is (ap (fitted n) (some_end (Some why) g (sym e) (omega arith)) ∙ cond-false (leb (length g.so_far) 6) _ _ (lt-leb (length g.so_far) 6 (omega arith)))
+      by b o m e f k unranged =
+          let is : why ≡ NumberOutOfRange = cc in
+          rw is (ap (fitted n) (fault_is ws out_of_range (λ z. let y : ◌≡◌ {A = ℕ} 0 1 = cc in omega arith) (at_end (Some why) g ∙ ap (λ b. cond b (means g.so_far) out_of_range) (sym e))))
 
-  pub granted_end : (n : ℕ) → Gathering ws [] line true false → 0 < length (conditions_of line) → fitted n (fault ws) ≡ Ok (conditions_of line)
+  fine : (o : Option Reason) (b : Bool) (m : ℕ) → o ≡ None → Found o b m → (b ≡ true) × (m ≤ 6)
+  fine o b m e (nothing_wrong h) = (refl, h)
+  fine o b m e (crowded h) = cc
+  fine o b m e unranged = cc
+
+  pub none_end : Gathering ws [] line None → length line ≡ 0 → fault ws ≡ no_form
+  none_end g none =
+      let fit = fine None g.ranged (length g.so_far) refl g.found in
+      let empty : length g.so_far ≡ 0 = omega (arith, ap length g.held ∙ length-take 6 g.so_far) in
+      fault_none ws (at_end None g ∙ ap (λ b. cond b (means g.so_far) out_of_range) fit.0 ∙ ap means (nil_from_length g.so_far empty))
+
+  pub granted_end : (n : ℕ) → Gathering ws [] line None → 0 < length line → fitted n (fault ws) ≡ Ok line
   granted_end n g some =
-      let few : length g.so_far ≤ 6 = ltb-false 6 (length g.so_far) (sym g.count) in
-      ap (fitted n) (some_end false g some) ∙ cond-true (leb (length g.so_far) 6) _ _ (le-leb (length g.so_far) 6 few)
-      ∙ ap Ok (sym (g.held ∙ take_all 6 g.so_far few))
+      let fit = fine None g.ranged (length g.so_far) refl g.found in
+      let filled : 0 < length g.so_far = omega (arith, ap length g.held ∙ length-take 6 g.so_far) in
+      ap (fitted n) (some_end None g fit.0 filled) ∙ cond-true (leb (length g.so_far) 6) _ _ (le-leb (length g.so_far) 6 fit.1)
+      ∙ ap Ok (sym (g.held ∙ take_all 6 g.so_far fit.1))
+
+  pub few_held : Gathering ws [] line None → length line ≤ 6
+  few_held g = omega (arith, ap length g.held ∙ length-take 6 g.so_far)

@@ -1,9 +1,16 @@
 -- Lists of which the last grows, and how long they are together. Assumes nothing.
-use Rattle.std.proofs.Common.{◌≡◌, suc, ◌+◌, true, List, [], ◌∷◌, ◌++◌, length, sym, refl, ap, ◌∙◌, arith}
+use Rattle.std.proofs.Common.{◌≡◌, suc, ◌+◌, sum_by, true, List, [], ◌∷◌, ◌++◌, length, sym, refl, ap, ◌∙◌, arith}
 use Rattle.std.proofs.lemmas.List.{length_push}
-use Rattle.listing.specs.Reading.{some, last_length, together, grown}
+use Rattle.std.proofs.lemmas.List.Sums.{sum_by-cons}
+use Rattle.listing.specs.Reading.{some, last_length, grown}
 use Rattle.listing.specs.Spelling.{Pairwise}
 use Rattle.listing.proofs.Pairs.{AsLong}
+use Rattle.listing.specs.Limits.{together}
+
+-- as the library adds up
+pub together_is : {X : Type 0} (ls : List (List X)) → sum_by length ls ≡ together ls
+together_is [] = refl
+together_is (l ∷ ls) = sum_by-cons length l ls ∙ ap (λ n. length l + n) (together_is ls)
 
 pub together_append : {X : Type 0} (xs ys : List (List X)) → together (xs ++ ys) ≡ together xs + together ys
 together_append [] ys = omega arith

@@ -13,10 +13,6 @@ use Rattle.listing.proofs.FormSpells.{line_items, line_ranges, form_spelled, spe
 use Rattle.listing.proofs.Results.{passed, went_on}
 use Rattle.listing.proofs.WordLines.{with_words, read_words}
 
--- a fault line by itself
-abbrev pub fault_fits : List Condition → Bool
-fault_fits cs = between 1 6 (length cs) && all condition_fits cs
-
 -- where a line may stand, by what it says
 abbrev pub stands : Progress → Line → Bool
 stands p (bound_line k) = bound_stands p

@@ -16,3 +16,10 @@ module _ {X Y : Type 0} (R : X → Y → Type 0) where
   pub pairwise_map : (f : X → Y) (xs : List X) → All (λ x. R x (f x)) xs → Pairwise R xs (map f xs)
   pairwise_map f [] h = tt
   pairwise_map f (x ∷ xs) h = (h.0, pairwise_map f xs h.1)
+
+-- lists that are as long as others, one by one
+pub pairwise_lengths : {X Y : Type 0} (xs : List (List X)) (ys : List (List Y)) → map length xs ≡ map length ys → Pairwise AsLong xs ys
+pairwise_lengths [] [] h = tt
+pairwise_lengths [] (y ∷ ys) h = cc
+pairwise_lengths (x ∷ xs) [] h = cc
+pairwise_lengths (x ∷ xs) (y ∷ ys) h = (cc, pairwise_lengths xs ys cc)

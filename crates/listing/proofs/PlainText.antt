@@ -15,10 +15,9 @@ use Rattle.listing.specs.declared.code.Register.TheVariants as register
 use Rattle.listing.specs.declared.code.Variable.{Variable}
 use Rattle.listing.specs.declared.code.Variable.TheVariants as variable
 use Rattle.listing.specs.Code.{Code}
-use Rattle.listing.specs.Limits.{all}
+use Rattle.listing.specs.Limits.{all, together, thread_keeps, fault_keeps}
 use Rattle.listing.specs.Names.{variable_word, register_word}
-use Rattle.listing.specs.Reading.{together}
-use Rattle.listing.specs.Spelling.{Item, name, number, Writes, one_digit, two_digits, Spelled, Pairwise, operand_item, instruction_items, condition_items, thread_rows, fault_row, rows, in_word, Solid, Shows, no_words, last_word, word, plain, Text, no_rows, row, thread_keeps, fault_keeps, keeps_limits, Spells}
+use Rattle.listing.specs.Spelling.{Item, name, number, Writes, one_digit, two_digits, Spelled, Pairwise, operand_item, instruction_items, condition_items, thread_rows, fault_row, rows, in_word, Solid, Shows, no_words, last_word, word, plain, Text, no_rows, row, keeps_limits, Spells}
 use Rattle.listing.specs.Values.{operand_fits, instruction_fits, condition_fits}
 use Rattle.listing.specs.Words.{is_letter}
 use Rattle.listing.proofs.Counts.{at_most}

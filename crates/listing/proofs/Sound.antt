@@ -5,8 +5,8 @@ use Rattle.std.proofs.lemmas.Bool.{and_parts, and_from, ltb-true, le-leb}
 use Rattle.listing.specs.declared.code.Condition.{Condition}
 use Rattle.listing.specs.declared.code.Instruction.{Instruction}
 use Rattle.listing.specs.Forms.{Line, bound_line, thread_line, instruction_line, fault_line}
-use Rattle.listing.specs.Limits.{all, bound_fits}
-use Rattle.listing.specs.Reading.{Progress, nothing, some, last_length, together, room, grown, with_line, read_lines}
+use Rattle.listing.specs.Limits.{all, bound_fits, together, fault_fits, thread_fits}
+use Rattle.listing.specs.Reading.{Progress, nothing, some, last_length, room, grown, with_line, read_lines}
 use Rattle.listing.specs.Spelling.{Pairwise}
 use Rattle.listing.specs.Values.{instruction_fits, condition_fits}
 use Rattle.listing.specs.Words.{content_of, words}
@@ -14,7 +14,7 @@ use Rattle.listing.proofs.ByWords.{read_by_words, read_permitted}
 use Rattle.listing.proofs.FormSpells.{line_ranges}
 use Rattle.listing.proofs.Grown.{together_push, grown_length, grown_together, grown_as_long}
 use Rattle.listing.proofs.Kept.{all_push}
-use Rattle.listing.proofs.LineSteps.{fault_fits, stands, Taken, read_keeps}
+use Rattle.listing.proofs.LineSteps.{stands, Taken, read_keeps}
 use Rattle.listing.proofs.Pairs.{AsLong, pairwise_append}
 use Rattle.listing.proofs.WordLines.{read_words}
 
@@ -23,17 +23,13 @@ abbrev pub Started : Option ℕ → List (List Instruction) → List (List Condi
 Started None ts fs = (ts ≡ []) × (fs ≡ [])
 Started (Some k) ts fs = Unit {0}
 
--- what holds of a thread while it is read: whether it is empty and where it jumps is looked at in the end
-abbrev pub thread_so_far : List Instruction → Bool
-thread_so_far t = leb (length t) 16 && all instruction_fits t
-
 -- what has been read keeps the limits so far, and stands side by side with its lines
 pub record Sound (p : Progress) : Type 0 where
   pub bound_fit : bound_fits p.bound ≡ true
   pub started : Started p.bound p.threads p.faults
   pub few_threads : length p.threads ≤ 4
   pub few_instructions : together p.threads ≤ 32
-  pub threads_fit : all thread_so_far p.threads ≡ true
+  pub threads_fit : all thread_fits p.threads ≡ true
   pub few_faults : length p.faults ≤ 8
   pub faults_fit : all fault_fits p.faults ≡ true
   pub thread_lines : length p.thread_lines ≡ length p.threads
@@ -59,13 +55,13 @@ nothing_sound =
 pub no_thread : (p : Progress) → Sound p → p.bound ≡ None → some p.threads ≡ false
 no_thread p s e = ap some (subst (λ o. Started o p.threads p.faults) e s.started).0
 
-grown_fit : (ts : List (List Instruction)) (i : Instruction) → last_length ts < 16 → instruction_fits i ≡ true → all thread_so_far ts ≡ true → all thread_so_far (grown ts i) ≡ true
+pub grown_fit : (ts : List (List Instruction)) (i : Instruction) → last_length ts < 16 → instruction_fits i ≡ true → all thread_fits ts ≡ true → all thread_fits (grown ts i) ≡ true
 grown_fit [] i short fits h = refl
 grown_fit (t ∷ []) i short fits h =
-    let parts = and_parts (leb (length t) 16) (all instruction_fits t) (and_parts (thread_so_far t) true h).0 in
+    let parts = and_parts (leb (length t) 16) (all instruction_fits t) (and_parts (thread_fits t) true h).0 in
     and_from _ _ (and_from _ _ (le-leb (length (t ++ i ∷ [])) 16 (omega (arith, length_push t i))) (all_push instruction_fits t i parts.1 fits)) refl
 grown_fit (t ∷ u ∷ ts) i short fits h =
-    let parts = and_parts (thread_so_far t) (all thread_so_far (u ∷ ts)) h in
+    let parts = and_parts (thread_fits t) (all thread_fits (u ∷ ts)) h in
     and_from _ _ parts.0 (grown_fit (u ∷ ts) i short fits parts.1)
 
 -- where the bound has been read
@@ -98,7 +94,7 @@ sound_more p n thread_line s stood ranged fitted =
       started = bound_read p.bound (p.threads ++ [] ∷ []) p.faults (and_parts (is_some p.bound) (not (some p.faults)) stood).0;
       few_threads = rw length_push (omega (arith, ltb-true (length p.threads) 4 fitted));
       few_instructions = omega (arith, together_push p.threads []);
-      threads_fit = all_push thread_so_far p.threads [] s.threads_fit refl;
+      threads_fit = all_push thread_fits p.threads [] s.threads_fit refl;
       few_faults = s.few_faults;
       faults_fit = s.faults_fit;
       thread_lines = length_push p.thread_lines n ∙ (ap (λ m. m + 1) s.thread_lines ∙ sym (length_push p.threads []));

@@ -58,7 +58,7 @@ module _ (p : Progress) (n : ℕ) where
       by false h k = absurd (let z : ◌≡◌ {A = ℕ} 0 1 = cc in omega arith)
 
 -- what a bound line says, by its first word and whether others follow
-ended_some : {X : Type 0} (ws : List (List ℕ)) (s : Says X) → some ws ≡ true → ended ws s ≡ no_form
+pub ended_some : {X : Type 0} (ws : List (List ℕ)) (s : Says X) → some ws ≡ true → ended ws s ≡ no_form
 ended_some [] s h = absurd (let z : ◌≡◌ {A = ℕ} 0 1 = cc in omega arith)
 ended_some (w ∷ ws) s h = refl
 

@@ -5,9 +5,8 @@ use Rattle.listing.specs.declared.code.Condition.{Condition}
 use Rattle.listing.specs.declared.code.Instruction.{Instruction}
 use Rattle.listing.specs.Code.{Code}
 use Rattle.listing.specs.Laws.{jumps_there}
-use Rattle.listing.specs.Limits.{all, between}
-use Rattle.listing.specs.Reading.{together, condition_there}
-use Rattle.listing.specs.Spelling.{thread_keeps, fault_keeps, keeps_limits}
+use Rattle.listing.specs.Limits.{all, between, together, condition_there, thread_keeps, fault_keeps, within_limits}
+use Rattle.listing.specs.Spelling.{keeps_limits}
 use Rattle.listing.specs.Values.{instruction_fits, condition_fits}
 
 three_parts : (x y z : Bool) → (x && (y && z)) ≡ true → (x ≡ true) × (y ≡ true) × (z ≡ true)
@@ -31,7 +30,7 @@ pub record Within (c : Code) : Type 0 where
   pub aim : all (fault_keeps c.threads) c.faults ≡ true
 
 pub within : (c : Code) → keeps_limits c ≡ true → Within c
-unfolding keeps_limits
+unfolding within_limits
 within c h =
     let of-threads = between 1 4 (length c.threads) && (all thread_keeps c.threads && leb (together c.threads) 32) in
     let of-faults = between 1 8 (length c.faults) && all (fault_keeps c.threads) c.faults in

@@ -8,18 +8,18 @@ use Rattle.listing.specs.declared.code.Instruction.{Instruction}
 use Rattle.listing.specs.Code.{Code}
 use Rattle.listing.specs.Forms.{Line, bound_line, thread_line, instruction_line, fault_line}
 use Rattle.listing.specs.Laws.{jumps_there}
-use Rattle.listing.specs.Limits.{all, between, bound_fits}
-use Rattle.listing.specs.Reading.{Progress, nothing, some, together, grown, with_line, first_failing, jump_failing, condition_there, target_failing, targeted, complete, filled, finished}
-use Rattle.listing.specs.Spelling.{Item, Spelled, Pairwise, instruction_items, thread_rows, fault_row, rows, thread_keeps, fault_keeps, keeps_limits}
+use Rattle.listing.specs.Limits.{all, between, bound_fits, together, condition_there, thread_keeps, fault_keeps, fault_fits, within_limits, thread_fits}
+use Rattle.listing.specs.Reading.{Progress, nothing, some, grown, with_line, first_failing, jump_failing, target_failing, targeted, complete, filled, finished}
+use Rattle.listing.specs.Spelling.{Item, Spelled, Pairwise, instruction_items, thread_rows, fault_row, rows, keeps_limits}
 use Rattle.listing.specs.Values.{instruction_fits, condition_fits}
 use Rattle.listing.proofs.Counts.{none_there, some_between}
 use Rattle.listing.proofs.Failing.{or_else_none, all_pass, all_jumps_pass}
 use Rattle.listing.proofs.FormSpells.{line_items}
 use Rattle.listing.proofs.Kept.{all_join}
-use Rattle.listing.proofs.LineSteps.{fault_fits, stands, Taken, read_keeps}
+use Rattle.listing.proofs.LineSteps.{stands, Taken, read_keeps}
 use Rattle.listing.proofs.Pairs.{pairwise_append}
 use Rattle.listing.proofs.Results.{passed}
-use Rattle.listing.proofs.Sound.{Started, thread_so_far, Sound, nothing_sound, taken_sound}
+use Rattle.listing.proofs.Sound.{Started, Sound, nothing_sound, taken_sound}
 use Rattle.listing.proofs.WordLines.{with_words, read_words}
 
 -- the rows of what has been read
@@ -98,7 +98,7 @@ finished_from p c h =
 abbrev filled_fits : List Instruction → Bool
 filled_fits t = between 1 16 (length t) && all instruction_fits t
 
-filled_thread : (t : List Instruction) → some t ≡ true → thread_so_far t ≡ true → filled_fits t ≡ true
+filled_thread : (t : List Instruction) → some t ≡ true → thread_fits t ≡ true → filled_fits t ≡ true
 filled_thread t h k = let parts = and_parts (leb (length t) 16) (all instruction_fits t) k in and_from _ _ (some_between 16 t h (leb-true _ _ parts.0)) parts.1
 
 whole_thread : (t : List Instruction) → filled_fits t ≡ true → jumps_there t ≡ true → thread_keeps t ≡ true
@@ -108,7 +108,7 @@ whole_fault : (ts : List (List Instruction)) (cs : List Condition) → fault_fit
 whole_fault ts cs h k = let parts = and_parts (between 1 6 (length cs)) (all condition_fits cs) h in and_from _ _ parts.0 (and_from _ _ parts.1 k)
 
 finished_keeps : (p : Progress) (c : Code) → Sound p → Finished p c → keeps_limits c ≡ true
-unfolding keeps_limits
+unfolding within_limits
 finished_keeps p c s f =
     let t = or_else_none (jump_failing p.instruction_lines p.threads) (first_failing (all (condition_there p.threads)) p.fault_lines p.faults) f.targets in
     let filled-all = all_pass some p.thread_lines p.threads s.thread_lines f.filled_threads in
@@ -118,10 +118,14 @@ finished_keeps p c s f =
     (and_from _ _ (sym (ap bound_fits f.bound_is) ∙ s.bound_fit)
     (and_from _ _
     (and_from _ _ (some_between 4 p.threads f.threads s.few_threads)
-    (and_from _ _ (all_join filled_fits jumps_there thread_keeps whole_thread p.threads (all_join some thread_so_far filled_fits filled_thread p.threads filled-all s.threads_fit) jumps)
+    (and_from _ _ (all_join filled_fits jumps_there thread_keeps whole_thread p.threads (all_join some thread_fits filled_fits filled_thread p.threads filled-all s.threads_fit) jumps)
     (le-leb (together p.threads) 32 s.few_instructions)))
     (and_from _ _ (some_between 8 p.faults f.faults s.few_faults)
     (all_join fault_fits (all (condition_there p.threads)) (fault_keeps p.threads) (whole_fault p.threads) p.faults s.faults_fit aims))))
+
+-- a program that is granted in the end keeps the limits
+pub end_keeps : (p : Progress) (c : Code) → Sound p → finished p ≡ Ok c → keeps_limits c ≡ true
+end_keeps p c s h = finished_keeps p c s (finished_from p c h)
 
 finished_rows : (p : Progress) (c : Code) → Finished p c → progress_rows p ≡ rows c
 finished_rows p c f =

@@ -12,8 +12,8 @@ use Rattle.listing.specs.declared.code.Instruction.{Instruction}
 use Rattle.listing.specs.declared.program.Program.{Program}
 use Rattle.listing.specs.Code.{Code, code_of}
 use Rattle.listing.specs.Forms.{Says, no_form, out_of_range, means, Line, form}
-use Rattle.listing.specs.Limits.{all, jump_within}
-use Rattle.listing.specs.Reading.{reading, refusal, Progress, nothing, some, may_stand, room, read_lines, condition_there}
+use Rattle.listing.specs.Limits.{all, jump_within, condition_there}
+use Rattle.listing.specs.Reading.{reading, refusal, Progress, nothing, some, may_stand, room, read_lines}
 use Rattle.listing.specs.Spelling.{Spells, keeps_limits}
 use Rattle.listing.specs.Words.{permitted, content_of, words, lines}
 

@@ -24,7 +24,7 @@ use Rattle.listing.specs.declared.refusal.Reason.TheVariants.{TextTooLong, ByteN
 use Rattle.listing.specs.declared.refusal.Refusal.{Refusal}
 use Rattle.listing.specs.Code.{Code}
 use Rattle.listing.specs.Forms.{Says, no_form, out_of_range, means, Line, bound_line, thread_line, instruction_line, fault_line, form}
-use Rattle.listing.specs.Limits.{all, jump_within}
+use Rattle.listing.specs.Limits.{all, condition_there, jump_within, together}
 use Rattle.listing.specs.Names.{same_word}
 use Rattle.listing.specs.Words.{permitted, content_of, words, lines}
 
@@ -68,15 +68,11 @@ may_stand p w =
     (cond (same_word (codes "thread") w) (thread_stands p)
     (cond (same_word (codes "fault") w) (fault_stands p) (instruction_stands p)))
 
--- how long the last of some lists is, and how long they are together
+-- how long the last of some lists is
 abbrev pub last_length : {X : Type 0} → List (List X) → ℕ
 last_length [] = 0
 last_length (l ∷ []) = length l
 last_length (l ∷ m ∷ ls) = last_length (m ∷ ls)
-
-abbrev pub together : {X : Type 0} → List (List X) → ℕ
-together [] = 0
-together (l ∷ ls) = length l + together ls
 
 abbrev pub room : Progress → Line → Bool
 room p (bound_line k) = true
@@ -161,12 +157,6 @@ abbrev pub jump_failing : List (List ℕ) → List (List Instruction) → Option
 jump_failing [] ts = None
 jump_failing (ns ∷ nss) [] = None
 jump_failing (ns ∷ nss) (t ∷ ts) = or_else (first_failing (jump_within (length t)) ns t) (jump_failing nss ts)
-
--- the threads that a condition names are there, and where it says that one stands is at most its length
-abbrev pub condition_there : List (List Instruction) → Condition → Bool
-condition_there ts (condition.At t n) = nat_lt t (length ts) && nat_le n (length (slice_index_or ts t []))
-condition_there ts (condition.Holds t r d) = nat_lt t (length ts)
-condition_there ts (condition.Memory v d) = true
 
 abbrev pub target_failing : Progress → Option ℕ
 target_failing p =

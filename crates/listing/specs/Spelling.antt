@@ -20,10 +20,8 @@ use Rattle.listing.specs.declared.code.Instruction.TheVariants as instruction
 use Rattle.listing.specs.declared.code.Operand.{Operand}
 use Rattle.listing.specs.declared.code.Operand.TheVariants as operand
 use Rattle.listing.specs.Code.{Code}
-use Rattle.listing.specs.Limits.{all, between, jump_within}
+use Rattle.listing.specs.Limits.{all, within_limits}
 use Rattle.listing.specs.Names.{variable_word, register_word}
-use Rattle.listing.specs.Reading.{together, condition_there}
-use Rattle.listing.specs.Values.{instruction_fits, condition_fits}
 use Rattle.listing.specs.Words.{is_letter, is_digit}
 
 pub data Item : Type 0 where
@@ -105,16 +103,8 @@ pub data Text : List (List (List ℕ)) → List ℕ → Type 0 where
   last_row : (ws : List (List ℕ)) (bs : List ℕ) → Row ws bs → Text (kept ws []) bs
   row : (ws : List (List ℕ)) (bs : List ℕ) {wss : List (List (List ℕ))} {t : List ℕ} → Row ws bs → Text wss t → Text (kept ws wss) (bs ++ 10 ∷ t)
 
-abbrev pub thread_keeps : List Instruction → Bool
-thread_keeps is = between 1 16 (length is) && (all instruction_fits is && all (jump_within (length is)) is)
-
-abbrev pub fault_keeps : List (List Instruction) → List Condition → Bool
-fault_keeps ts cs = between 1 6 (length cs) && (all condition_fits cs && all (condition_there ts) cs)
-
-unfoldable pub keeps_limits : Code → Bool
-keeps_limits c =
-    between 1 4 c.bound && ((between 1 4 (length c.threads) && (all thread_keeps c.threads && nat_le (together c.threads) 32))
-    && (between 1 8 (length c.faults) && all (fault_keeps c.threads) c.faults))
+abbrev pub keeps_limits : Code → Bool
+keeps_limits c = within_limits c.bound c.threads c.faults
 
 pub record Spells (t : List ℕ) (c : Code) : Type 0 where
   pub written : List (List (List ℕ))

@@ -10,8 +10,12 @@
 --   mnemonic_word k    the first word of an instruction
 --   Begins w n r       the word w is that of a mnemonic, or no instruction begins with it
 --   Operands m w v r   the words of an instruction were taken from w and v is left; else the line is no form
+--   bound_read ds, written_read i, fault_read w     what a line says that is a bound, an instruction, a fault line
+--   line_read l        what a line says by its form
+--   line_stands p l    it may stand here
+--   FormedBy t w r     a line whose first word is t, and whose others are w, has that form, or none
 --   TookCondition w v r      a condition was taken from w and v is left, or there was none to take; else the line is no form
-use Rattle.std.specs.Prelude.{◌≡◌, ℕ, ◌<◌, true, false, cond, List, [], ◌∷◌, length, Some, None, Ok, Err, codes, Option, Result, nat_le}
+use Rattle.std.specs.Prelude.{◌≡◌, ℕ, ◌<◌, Bool, true, false, cond, List, [], ◌∷◌, length, Some, None, Ok, Err, codes, Option, Result, nat_le}
 use Rattle.std.specs.Borrow.{Bor}
 use Rattle.listing.specs.declared.code.Condition.{Condition}
 use Rattle.listing.specs.declared.code.Condition.TheVariants as condition
@@ -22,6 +26,8 @@ use Rattle.listing.specs.declared.code.Operand.TheVariants as operands
 use Rattle.listing.specs.declared.lexer.Token.{Token}
 use Rattle.listing.specs.declared.lexer.Token.TheVariants.{Word, Number}
 use Rattle.listing.specs.declared.lexer.Words.{Words}
+use Rattle.listing.specs.declared.lines.Line.{Line as Form}
+use Rattle.listing.specs.declared.lines.Line.TheVariants as forms
 use Rattle.listing.specs.declared.lines.Mnemonic.{Mnemonic}
 use Rattle.listing.specs.declared.lines.Mnemonic.TheVariants as mnemonic
 use Rattle.listing.specs.declared.lines.WrittenCondition.{WrittenCondition}
@@ -32,10 +38,10 @@ use Rattle.listing.specs.declared.lines.WrittenOperand.{WrittenOperand}
 use Rattle.listing.specs.declared.lines.WrittenOperand.TheVariants as woperand
 use Rattle.listing.specs.declared.refusal.Reason.TheVariants.{NoForm, NumberOutOfRange, TooMany}
 use Rattle.listing.specs.declared.refusal.Refusal.{Refusal}
-use Rattle.listing.specs.Forms.{Says, no_form, out_of_range, means, first, rest, ended, more, instruction, all_conditions}
+use Rattle.listing.specs.Forms.{Says, no_form, out_of_range, means, apply, first, rest, ended, more, instruction, all_conditions, Line, bound_line, thread_line, instruction_line, fault_form, form}
 use Rattle.listing.specs.Limits.{all, between}
 use Rattle.listing.specs.Names.{value_of}
-use Rattle.listing.specs.Reading.{refusal}
+use Rattle.listing.specs.Reading.{Progress, bound_stands, fault_stands, instruction_stands, may_stand, refusal, thread_stands}
 use Rattle.listing.specs.Words.{words, is_digit}
 
 abbrev pub left : Words → List (List ℕ)
@@ -119,6 +125,33 @@ abbrev pub TookCondition : Words → Words → Result (Option WrittenCondition) 
 TookCondition w v (Ok None) = (v.line ≡ w.line) × (left w ≡ [])
 TookCondition w v (Ok (Some c)) = (v.line ≡ w.line) × ((size v < size w) × (all_conditions (left w) ≡ more (said (condition_read c)) (all_conditions (left v))))
 TookCondition w v (Err e) = (e ≡ refusal NoForm w.line) × (all_conditions (left w) ≡ no_form)
+
+abbrev pub bound_read : Bor (List ℕ) → Says Line
+bound_read digits = apply (means bound_line) (said (number_read 1 4 digits))
+
+abbrev pub written_read : WrittenInstruction → Says Line
+written_read w = apply (means instruction_line) (said (instruction_read w))
+
+abbrev pub fault_read : Words → Says Line
+fault_read w = fault_form (left w)
+
+abbrev pub line_read : Form → Says Line
+line_read (forms.Bound digits) = bound_read digits
+line_read forms.Thread = means thread_line
+line_read (forms.Fault w) = fault_read w
+line_read (forms.Instruction w) = written_read w
+
+abbrev pub line_stands : Progress → Form → Bool
+line_stands p (forms.Bound digits) = bound_stands p
+line_stands p forms.Thread = thread_stands p
+line_stands p (forms.Fault w) = fault_stands p
+line_stands p (forms.Instruction w) = instruction_stands p
+
+abbrev pub FormedBy : Token → Words → Result Form Refusal → Type 0
+FormedBy (Word bytes at) w (Ok l) = (form bytes.now (left w) ≡ line_read l) × ((p : Progress) → may_stand p bytes.now ≡ line_stands p l)
+FormedBy (Word bytes at) w (Err e) = (e ≡ refusal NoForm w.line) × (form bytes.now (left w) ≡ no_form)
+FormedBy (Number bytes at) w (Ok l) = ⊥
+FormedBy (Number bytes at) w (Err e) = e ≡ refusal NoForm w.line
 
 -- what a fault line answers: its conditions, at most six, or the refusal of its line
 abbrev pub counted : ℕ → List Condition → Result (List Condition) Refusal

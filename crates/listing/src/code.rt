@@ -1,7 +1,9 @@
 // What a listing is made of: instructions and conditions, with the values they name.
-ghost use Rattle.std.specs.Prelude.{◌≡◌, ◌<◌, true};
-ghost use Rattle.listing.specs.Limits.{all};
-ghost use Rattle.listing.specs.Code.{index, slot, conditions_of, condition_sound, line_sound};
+ghost use Rattle.std.specs.Prelude.{◌≡◌, ◌<◌, ◌^◌, length};
+ghost use Rattle.listing.specs.Code.{index, slot};
+ghost use Rattle.listing.specs.Limits.{together};
+
+use few::{Few, Filler};
 
 // A shared word.
 #[derive(Clone, Copy, PartialEq, Eq)]
@@ -63,6 +65,16 @@ pub enum Instruction {
     JumpUnlessEqual(Register, Operand, u8),
 }
 
+impl Filler for Instruction {
+    ghost use Rattle.listing.specs.declared.code.Instruction.TheVariants.{Fence};
+
+    ghost filler = { Fence };
+
+    fn filler() -> Self {
+        Instruction::Fence
+    }
+}
+
 #[derive(Clone, Copy, PartialEq, Eq)]
 pub enum Condition {
     At(u8, u8),
@@ -70,26 +82,26 @@ pub enum Condition {
     Memory(Variable, u8),
 }
 
-// The instructions of one thread; unused room holds `Fence`.
-#[derive(Clone, Copy)]
-pub struct ThreadCode {
-    pub length: u8,
-    pub instructions: [Instruction; 16],
-}
+impl Filler for Condition {
+    ghost use Rattle.listing.specs.declared.code.Condition.TheVariants.{At};
 
-// The conditions of one fault line; unused room holds `At(0, 0)`.
-#[derive(Clone, Copy)]
-pub struct FaultLine {
-    pub length: u8,
-    pub conditions: [Condition; 6],
-}
+    ghost filler = { At 0 0 };
 
-impl FaultLine {
-    pub fn conditions(&self) -> &[Condition]
-        requires { line_sound self.now ≡ true }
-        ensures value { result.now ≡ conditions_of self.now }
-        ensures sound { all condition_sound result.now ≡ true }
-    {
-        &self.conditions[0..usize::from(self.length)]
+    fn filler() -> Self {
+        Condition::At(0, 0)
     }
+}
+
+// The instructions of one thread.
+pub type ThreadCode = Few<Instruction, 16>;
+
+// The conditions of one fault line.
+pub type FaultLine = Few<Condition, 6>;
+
+// How many instructions some threads have.
+pub(crate) fn together(threads: &[ThreadCode]) -> usize
+    requires { together threads.now < 2 ^ 32 }
+    ensures { result ≡ together threads.now }
+{
+    threads.iter().map(|code| code.len()).sum()
 }

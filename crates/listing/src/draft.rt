@@ -1,34 +1,29 @@
 // The program as far as it has been read, with the lines that its parts stand on.
-ghost use Rattle.std.specs.Prelude.{◌≡◌, ◌≤◌, true, take, drop};
-ghost use Rattle.listing.specs.Limits.{all, total, bound_fits, thread_fits, thread_unused, line_fits, line_used, line_unused, sized, lines_room};
+ghost use Rattle.std.specs.Prelude.{◌≡◌, ◌≤◌, true, length, map};
+ghost use Rattle.listing.specs.Limits.{all, bound_fits, fault_fits, thread_fits, together};
 
 mod adding;
 pub mod finish;
-mod formed;
 
 use crate::code::{FaultLine, ThreadCode};
+use few::Few;
 
 #[derive(Clone, Copy)]
 pub struct Draft {
     pub(crate) bound: Option<u8>,
-    pub(crate) thread_count: u8,
-    pub(crate) threads: [ThreadCode; 4],
-    pub(crate) instruction_count: u8,
-    pub(crate) fault_count: u8,
-    pub(crate) faults: [FaultLine; 8],
-    pub(crate) thread_lines: [u16; 4],
-    pub(crate) instruction_lines: [[u16; 16]; 4],
-    pub(crate) fault_lines: [u16; 8],
+    pub(crate) threads: Few<ThreadCode, 4>,
+    pub(crate) faults: Few<FaultLine, 8>,
+    // A program keeps no lines, so they stand beside its parts, which it is handed whole.
+    pub(crate) thread_lines: Few<u16, 4>,
+    pub(crate) instruction_lines: Few<Few<u16, 16>, 4>,
+    pub(crate) fault_lines: Few<u16, 8>,
     ghost bounded: { bound_fits bound ≡ true },
-    ghost few_threads: { thread_count ≤ 4 },
+    ghost few_threads: { length threads ≤ 4 },
+    ghost few_instructions: { together threads ≤ 32 },
     ghost threads_fit: { all thread_fits threads ≡ true },
-    ghost counted: { instruction_count ≡ total threads },
-    ghost few_instructions: { instruction_count ≤ 32 },
-    ghost threads_end: { all thread_unused (drop thread_count threads) ≡ true },
-    ghost few_faults: { fault_count ≤ 8 },
-    ghost faults_fit: { all line_fits faults ≡ true },
-    ghost faults_used: { all line_used (take fault_count faults) ≡ true },
-    ghost faults_end: { all line_unused (drop fault_count faults) ≡ true },
-    ghost parts_sized: { sized threads faults ≡ true },
-    ghost lines_sized: { lines_room thread_lines instruction_lines fault_lines ≡ true },
+    ghost few_faults: { length faults ≤ 8 },
+    ghost faults_fit: { all fault_fits faults ≡ true },
+    ghost threads_lined: { length thread_lines ≡ length threads },
+    ghost instructions_lined: { map length instruction_lines ≡ map length threads },
+    ghost faults_lined: { length fault_lines ≡ length faults },
 }

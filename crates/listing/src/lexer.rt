@@ -69,10 +69,7 @@ pub fn words_of(bytes: &[u8], line: u16) -> Result<Words<'_>, Refusal>
                 rest: &bytes[0..i],
                 line,
             }),
-            Kind::Other => return Err(Refusal {
-                reason: Reason::ByteNotPermitted,
-                line,
-            }),
+            Kind::Other => return Err(Reason::ByteNotPermitted.at(line)),
             Kind::Letter | Kind::Digit | Kind::Space => {}
         }
     }

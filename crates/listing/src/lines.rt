@@ -1,13 +1,12 @@
 // The words of a line, taken one by one by the form that its first word begins, and the values that its numbers have.
 ghost use Rattle.std.specs.Prelude.{◌≡◌, ℕ, ◌+◌, ◌<◌, ◌≤◌, true, [], ◌∷◌, ◌++◌, IfOk, IfErr, IfSome, Some, MatchResult};
 ghost use Rattle.listing.specs.declared.refusal.Reason.TheVariants.{NoForm, NumberOutOfRange};
-ghost use Rattle.listing.specs.Code.{conditions_of};
-ghost use Rattle.listing.specs.Forms.{fault, number as number_says, operand as operand_says, register as register_says, variable as variable_says};
-ghost use Rattle.listing.specs.Limits.{line_fits, line_used, line_sized};
+ghost use Rattle.listing.specs.Forms.{fault, no_form, number as number_says, operand as operand_says, register as register_says, variable as variable_says};
+ghost use Rattle.listing.specs.Limits.{fault_fits};
 ghost use Rattle.listing.specs.Lines.{Declined, Refused, Took as TookNamed, TookSome, stands_on};
 ghost use Rattle.listing.specs.Names.{decimal, value_of, variable_of, register_of, NamesVariable, NamesRegister, NamesNumber, NamesOperand, operand_of, instruction_of, condition_of};
-ghost use Rattle.listing.specs.Reading.{refusal, some, told};
-ghost use Rattle.listing.specs.Taking.{Begins, Operands, Whole, mnemonic_word, Took, TookCondition, Valued, fitted, left, number_read, operand_read, instruction_read, condition_read};
+ghost use Rattle.listing.specs.Reading.{refusal, some};
+ghost use Rattle.listing.specs.Taking.{Begins, Operands, Whole, mnemonic_word, FormedBy, Took, TookCondition, Valued, fitted, left, number_read, operand_read, instruction_read, condition_read};
 ghost use Rattle.listing.specs.Values.{operand_fits, instruction_fits, condition_fits};
 
 use crate::code::{Condition, FaultLine, Instruction, Operand, Register, Variable};
@@ -50,16 +49,6 @@ pub enum Line<'a> {
     Instruction(WrittenInstruction<'a>),
 }
 
-pub(crate) fn no_form(line: u16) -> Refusal
-    ensures form { Refused NoForm line result }
-    ensures refusal { result ≡ refusal NoForm line }
-{
-    Refusal {
-        reason: Reason::NoForm,
-        line,
-    }
-}
-
 // The first word of an instruction.
 #[derive(Clone, Copy)]
 enum Mnemonic {
@@ -87,7 +76,7 @@ fn mnemonic_named(word: &[u8], line: u16) -> Result<Mnemonic, Refusal>
         b"jump" => Ok(Mnemonic::Jump),
         b"jeq" => Ok(Mnemonic::JumpIfEqual),
         b"jne" => Ok(Mnemonic::JumpUnlessEqual),
-        _ => Err(no_form(line)),
+        _ => Err(Reason::NoForm.at(line)),
     }
 }
 
@@ -127,10 +116,10 @@ impl<'a> Words<'a> {
         ensures says { Took variable_says Some self.old self.new result }
     {
         let Some(Token::Word { bytes, .. }) = self.next() else {
-            return Err(no_form(self.line));
+            return Err(Reason::NoForm.at(self.line));
         };
         let Some(variable) = variable_named(bytes) else {
-            return Err(no_form(self.line));
+            return Err(Reason::NoForm.at(self.line));
         };
         Ok(variable)
     }
@@ -140,10 +129,10 @@ impl<'a> Words<'a> {
         ensures says { Took register_says Some self.old self.new result }
     {
         let Some(Token::Word { bytes, .. }) = self.next() else {
-            return Err(no_form(self.line));
+            return Err(Reason::NoForm.at(self.line));
         };
         let Some(register) = register_named(bytes) else {
-            return Err(no_form(self.line));
+            return Err(Reason::NoForm.at(self.line));
         };
         Ok(register)
     }
@@ -153,7 +142,7 @@ impl<'a> Words<'a> {
         ensures says { (low high : ℕ) → Took (number_says low high) (number_read low high) self.old self.new result }
     {
         let Some(Token::Number { bytes, .. }) = self.next() else {
-            return Err(no_form(self.line));
+            return Err(Reason::NoForm.at(self.line));
         };
         Ok(bytes)
     }
@@ -163,13 +152,13 @@ impl<'a> Words<'a> {
         ensures says { Took operand_says operand_read self.old self.new result }
     {
         let Some(first) = self.next() else {
-            return Err(no_form(self.line));
+            return Err(Reason::NoForm.at(self.line));
         };
         match first {
             Token::Number { bytes, .. } => Ok(WrittenOperand::Digits(bytes)),
             Token::Word { bytes, .. } => {
                 let Some(register) = register_named(bytes) else {
-                    return Err(no_form(self.line));
+                    return Err(Reason::NoForm.at(self.line));
                 };
                 Ok(WrittenOperand::Register(register))
             }
@@ -214,7 +203,7 @@ impl<'a> Words<'a> {
             return Ok(None);
         };
         let Token::Word { bytes, .. } = first else {
-            return Err(no_form(self.line));
+            return Err(Reason::NoForm.at(self.line));
         };
         match bytes {
             b"at" => Ok(Some(WrittenCondition::At(self.digits()?, self.digits()?))),
@@ -224,16 +213,17 @@ impl<'a> Words<'a> {
                 self.digits()?,
             ))),
             b"mem" => Ok(Some(WrittenCondition::Memory(self.variable()?, self.digits()?))),
-            _ => Err(no_form(self.line)),
+            _ => Err(Reason::NoForm.at(self.line)),
         }
     }
 
     fn conditions(mut self) -> Result<(), Refusal>
-        ensures { IfErr result (Refused NoForm self.entry.line) }
+        ensures form { IfErr result (Refused NoForm self.entry.line) }
+        ensures none { IfErr result (λ e. (e ≡ refusal NoForm self.entry.line) × (fault (left self.entry) ≡ no_form)) }
     {
         let line = self.line;
         let Some(_) = self.condition()? else {
-            return Err(no_form(line));
+            return Err(Reason::NoForm.at(line));
         };
         while let Some(_) = self.condition()? {}
         Ok(())
@@ -245,7 +235,7 @@ impl<'a> Words<'a> {
         ensures ends { MatchResult result (λ _. left self.old ≡ []) (λ e. (e ≡ refusal NoForm self.old.line) × some (left self.old) ≡ true) }
     {
         let None = self.next() else {
-            return Err(no_form(self.line));
+            return Err(Reason::NoForm.at(self.line));
         };
         Ok(())
     }
@@ -262,22 +252,28 @@ impl<'a> Words<'a> {
 
     // The form of a line by its words; its numbers may be any.
     pub fn form(mut self, first: Token<'a>) -> Result<Line<'a>, Refusal>
-        ensures { MatchResult result (stands_on self.entry.line) (Refused NoForm self.entry.line) }
+        ensures on { MatchResult result (stands_on self.entry.line) (Refused NoForm self.entry.line) }
+        ensures formed { FormedBy first.entry self.entry result }
     {
         let Token::Word { bytes, .. } = first else {
-            return Err(no_form(self.line));
+            return Err(Reason::NoForm.at(self.line));
         };
-        let line = match bytes {
-            b"bound" => Line::Bound(self.digits()?),
-            b"thread" => Line::Thread,
+        match bytes {
+            b"bound" => {
+                let digits = self.digits()?;
+                self.end()?;
+                Ok(Line::Bound(digits))
+            }
+            b"thread" => {
+                self.end()?;
+                Ok(Line::Thread)
+            }
             b"fault" => {
                 self.conditions()?;
-                return Ok(Line::Fault(self));
+                Ok(Line::Fault(self))
             }
-            mnemonic => return Ok(Line::Instruction(self.instruction(mnemonic)?)),
-        };
-        self.end()?;
-        Ok(line)
+            mnemonic => Ok(Line::Instruction(self.instruction(mnemonic)?)),
+        }
     }
 }
 
@@ -298,18 +294,12 @@ pub fn number(low: u8, high: u8, digits: &[u8], line: u16) -> Result<u8, Refusal
     ensures read { Valued (number_read low high digits.entry) line result }
 {
     let Some(n) = written(digits) else {
-        return Err(Refusal {
-            reason: Reason::NumberOutOfRange,
-            line,
-        });
+        return Err(Reason::NumberOutOfRange.at(line));
     };
     if low <= n && n <= high {
         Ok(n)
     } else {
-        Err(Refusal {
-            reason: Reason::NumberOutOfRange,
-            line,
-        })
+        Err(Reason::NumberOutOfRange.at(line))
     }
 }
 
@@ -395,60 +385,26 @@ fn condition(written: WrittenCondition<'_>, line: u16) -> Result<Condition, Refu
     }
 }
 
-fn with_condition(fault: FaultLine, condition: Condition) -> FaultLine
-    requires room { fault.length < 6 }
-    requires fits { line_fits fault ≡ true }
-    requires value { condition_fits condition ≡ true }
-    ensures fits { line_fits result ≡ true }
-    ensures sized { line_sized result ≡ true }
-    ensures longer { result.length ≡ fault.length + 1 }
-    ensures conditions { conditions_of result ≡ conditions_of fault ++ condition ∷ [] }
-{
-    let mut longer = fault;
-    longer.conditions[usize::from(fault.length)] = condition;
-    longer.length += 1;
-    longer
-}
-
 // The conditions of a fault line. All its words are taken before a number or the count is judged.
 pub fn fault_line(mut words: Words<'_>) -> Result<FaultLine, Refusal>
-    ensures fits { MatchResult result (λ l. (line_fits l ≡ true) × (line_used l ≡ true)) (Declined words.entry.line) }
-    ensures sized { IfOk result (λ l. line_sized l ≡ true) }
-    ensures value { told conditions_of result ≡ fitted words.entry.line (fault (left words.entry)) }
+    ensures fits { MatchResult result (λ l. fault_fits l ≡ true) (Declined words.entry.line) }
+    ensures value { result ≡ fitted words.entry.line (fault (left words.entry)) }
 {
     let line = words.line;
-    let mut fault = FaultLine {
-        length: 0,
-        conditions: [Condition::At(0, 0); 6],
-    };
-    let mut in_range = true;
-    let mut too_many = false;
+    let mut fault = FaultLine::new();
+    let mut wrong = None;
     while let Some(written) = words.condition()? {
         match condition(written, line) {
-            Ok(condition) => {
-                if room_for_condition(fault.length) {
-                    fault = with_condition(fault, condition);
-                } else {
-                    too_many = true;
-                }
-            }
-            Err(_) => in_range = false,
+            Err(_) => wrong = Some(Reason::NumberOutOfRange),
+            Ok(condition) if room_for_condition(fault.len()) => fault.push(condition),
+            Ok(_) => wrong = wrong.or(Some(Reason::TooMany)),
         }
     }
-    if !in_range {
-        return Err(Refusal {
-            reason: Reason::NumberOutOfRange,
-            line,
-        });
+    if let Some(reason) = wrong {
+        return Err(reason.at(line));
     }
-    if fault.length == 0 {
-        return Err(no_form(line));
-    }
-    if too_many {
-        return Err(Refusal {
-            reason: Reason::TooMany,
-            line,
-        });
+    if fault.is_empty() {
+        return Err(Reason::NoForm.at(line));
     }
     Ok(fault)
 }

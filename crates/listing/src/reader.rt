@@ -30,10 +30,7 @@ pub fn read(text: &[u8]) -> Result<Program, Refusal>
     ensures one_or_other { OneOrOther (told code_of result) }
 {
     if text.len() > MOST_BYTES {
-        return Err(Refusal {
-            reason: Reason::TextTooLong,
-            line: 0,
-        });
+        return Err(Reason::TextTooLong.refusal());
     }
     let mut draft = Draft::new();
     let mut rest = text;

@@ -37,13 +37,16 @@ impl Reason {
         self as u8
     }
 
+    pub fn at(self, line: u16) -> Refusal
+        ensures { result ≡ record { reason = self; line = line } }
+    {
+        Refusal { reason: self, line }
+    }
+
     // A refusal that concerns no line.
     pub fn refusal(self) -> Refusal
         ensures { result ≡ record { reason = self; line = 0 } }
     {
-        Refusal {
-            reason: self,
-            line: 0,
-        }
+        self.at(0)
     }
 }

@@ -1,178 +1,137 @@
 // What a line adds to a draft, if it may stand there and there is room for it.
-ghost use Rattle.std.specs.Prelude.{◌≡◌, ◌+◌, ◌<◌, true, [], ◌∷◌, ◌++◌, IfErr};
-ghost use Rattle.listing.specs.declared.refusal.Reason.TheVariants.{TooMany};
-ghost use Rattle.listing.specs.Code.{conditions_of, instructions_of};
+ghost use Rattle.std.specs.Prelude.{◌≡◌, ◌<◌, true, IfErr, length};
 ghost use Rattle.listing.specs.Drafts.{Adds, progress_of};
-ghost use Rattle.listing.specs.Forms.{means, thread_line, instruction_line, fault_line as fault_says, bound_form, thread_form, instruction_form, fault_form};
-ghost use Rattle.listing.specs.Limits.{thread_fits, thread_sized, line_fits, line_used, line_sized};
-ghost use Rattle.listing.specs.Lines.{Declined};
-ghost use Rattle.listing.specs.Reading.{nothing, refusal, held, standing, worded, bound_stands, thread_stands, instruction_stands, fault_stands};
-ghost use Rattle.listing.specs.Taking.{left};
+ghost use Rattle.listing.specs.Forms.{means, thread_line, instruction_line, fault_line as fault_says};
+ghost use Rattle.listing.specs.Lines.{Declined, stands_on};
+ghost use Rattle.listing.specs.Limits.{fault_fits};
+ghost use Rattle.listing.specs.Reading.{nothing, held, standing, worded, bound_stands, thread_stands, instruction_stands, fault_stands};
+ghost use Rattle.listing.specs.Taking.{bound_read, fault_read, left, line_read, line_stands, written_read};
 ghost use Rattle.listing.specs.Values.{instruction_fits};
 
-use crate::code::{Condition, FaultLine, Instruction, ThreadCode};
+use crate::code::{FaultLine, Instruction, ThreadCode, together};
 use crate::draft::Draft;
-use crate::lexer::{Token, Words};
-use crate::lines::{bound, fault_line, instruction, no_form};
+use crate::lexer::Words;
+use crate::lines::{Line, WrittenInstruction, bound, fault_line, instruction};
 use crate::refusal::{Reason, Refusal};
+use few::Few;
 use limits::{room_for_fault, room_for_instruction, room_for_thread};
-
-fn too_many(line: u16) -> Refusal
-    ensures { result ≡ refusal TooMany line }
-{
-    Refusal {
-        reason: Reason::TooMany,
-        line,
-    }
-}
-
-fn with_instruction(code: ThreadCode, instruction: Instruction) -> ThreadCode
-    requires room { code.length < 16 }
-    requires fits { thread_fits code ≡ true }
-    requires value { instruction_fits instruction ≡ true }
-    ensures fits { thread_fits result ≡ true }
-    ensures sized { thread_sized result ≡ true }
-    ensures longer { result.length ≡ code.length + 1 }
-    ensures instructions { instructions_of result ≡ instructions_of code ++ instruction ∷ [] }
-{
-    let mut longer = code;
-    longer.instructions[usize::from(code.length)] = instruction;
-    longer.length += 1;
-    longer
-}
-
-impl Draft {
-    // The draft with one thread more, if there is room for it.
-    pub(crate) fn push_thread(&mut self, line: u16) -> Result<(), Refusal>
-        ensures declined { IfErr result (Declined line) }
-        ensures adds { Adds (held (progress_of self.old) line (means thread_line)) self.new result }
-    {
-        if !room_for_thread(self.thread_count) {
-            return Err(too_many(line));
-        }
-        self.thread_lines[usize::from(self.thread_count)] = line;
-        self.thread_count += 1;
-        Ok(())
-    }
-
-    // Its last thread with one instruction more.
-    pub(crate) fn push_instruction(
-        &mut self,
-        instruction: Instruction,
-        line: u16,
-    ) -> Result<(), Refusal>
-        requires some { 0 < self.old.thread_count }
-        requires value { instruction_fits instruction ≡ true }
-        ensures declined { IfErr result (Declined line) }
-        ensures adds { Adds (held (progress_of self.old) line (means (instruction_line instruction))) self.new result }
-    {
-        let thread = usize::from(self.thread_count) - 1;
-        let code = self.threads[thread];
-        if !room_for_instruction(code.length, self.instruction_count) {
-            return Err(too_many(line));
-        }
-        let place = usize::from(code.length);
-        self.threads[thread] = with_instruction(code, instruction);
-        self.instruction_lines[thread][place] = line;
-        self.instruction_count += 1;
-        Ok(())
-    }
-
-    // The draft with one fault line more.
-    pub(crate) fn push_fault(&mut self, fault: FaultLine, line: u16) -> Result<(), Refusal>
-        requires fits { line_fits fault ≡ true }
-        requires used { line_used fault ≡ true }
-        requires sized { line_sized fault ≡ true }
-        ensures declined { IfErr result (Declined line) }
-        ensures adds { Adds (held (progress_of self.old) line (means (fault_says (conditions_of fault)))) self.new result }
-    {
-        if !room_for_fault(self.fault_count) {
-            return Err(too_many(line));
-        }
-        let place = usize::from(self.fault_count);
-        self.faults[place] = fault;
-        self.fault_lines[place] = line;
-        self.fault_count += 1;
-        Ok(())
-    }
-}
 
 impl Draft {
     pub fn new() -> Draft
         ensures { progress_of result ≡ nothing }
     {
-        let unused = ThreadCode {
-            length: 0,
-            instructions: [Instruction::Fence; 16],
-        };
-        let no_line = FaultLine {
-            length: 0,
-            conditions: [Condition::At(0, 0); 6],
-        };
         Draft {
             bound: None,
-            thread_count: 0,
-            threads: [unused; 4],
-            instruction_count: 0,
-            fault_count: 0,
-            faults: [no_line; 8],
-            thread_lines: [0; 4],
-            instruction_lines: [[0; 16]; 4],
-            fault_lines: [0; 8],
+            threads: Few::new(),
+            faults: Few::new(),
+            thread_lines: Few::new(),
+            instruction_lines: Few::new(),
+            fault_lines: Few::new(),
         }
     }
 
-    fn add_bound(&mut self, mut words: Words<'_>) -> Result<(), Refusal>
-        ensures declined { IfErr result (Declined words.entry.line) }
-        ensures adds { Adds (standing (progress_of self.old) words.entry.line (bound_stands (progress_of self.old)) (bound_form (left words.entry))) self.new result }
+    // Adds a thread without instructions.
+    fn push_thread(&mut self, line: u16) -> Result<(), Refusal>
+        ensures declined { IfErr result (Declined line) }
+        ensures adds { Adds (held (progress_of self.old) line (means thread_line)) self.new result }
     {
-        let line = words.line;
-        let None = self.bound else {
-            return Err(no_form(line));
-        };
-        let digits = words.digits()?;
-        words.end()?;
+        if !room_for_thread(self.threads.len()) {
+            return Err(Reason::TooMany.at(line));
+        }
+        self.threads.push(ThreadCode::new());
+        self.thread_lines.push(line);
+        self.instruction_lines.push(Few::new());
+        Ok(())
+    }
+
+    // Adds an instruction to the last thread.
+    fn push_instruction(&mut self, instruction: Instruction, line: u16) -> Result<(), Refusal>
+        requires some { 0 < length self.old.threads }
+        requires value { instruction_fits instruction ≡ true }
+        ensures declined { IfErr result (Declined line) }
+        ensures adds { Adds (held (progress_of self.old) line (means (instruction_line instruction))) self.new result }
+    {
+        let last = self.threads.len() - 1;
+        let mut code = self.threads.as_slice()[last];
+        if !room_for_instruction(code.len(), together(self.threads.as_slice())) {
+            return Err(Reason::TooMany.at(line));
+        }
+        code.push(instruction);
+        let mut lines = self.instruction_lines.as_slice()[last];
+        lines.push(line);
+        self.threads.replace_last(code);
+        self.instruction_lines.replace_last(lines);
+        Ok(())
+    }
+
+    fn push_fault(&mut self, fault: FaultLine, line: u16) -> Result<(), Refusal>
+        requires { fault_fits fault ≡ true }
+        ensures declined { IfErr result (Declined line) }
+        ensures adds { Adds (held (progress_of self.old) line (means (fault_says fault))) self.new result }
+    {
+        if !room_for_fault(self.faults.len()) {
+            return Err(Reason::TooMany.at(line));
+        }
+        self.faults.push(fault);
+        self.fault_lines.push(line);
+        Ok(())
+    }
+
+    fn add_bound(&mut self, digits: &[u8], line: u16) -> Result<(), Refusal>
+        ensures declined { IfErr result (Declined line) }
+        ensures adds { Adds (standing (progress_of self.old) line (bound_stands (progress_of self.old)) (bound_read digits.entry)) self.new result }
+    {
+        if self.bound.is_some() {
+            return Err(Reason::NoForm.at(line));
+        }
         self.bound = Some(bound(digits, line)?);
         Ok(())
     }
 
-    fn add_thread(&mut self, mut words: Words<'_>) -> Result<(), Refusal>
-        ensures declined { IfErr result (Declined words.entry.line) }
-        ensures adds { Adds (standing (progress_of self.old) words.entry.line (thread_stands (progress_of self.old)) (thread_form (left words.entry))) self.new result }
+    fn add_thread(&mut self, line: u16) -> Result<(), Refusal>
+        ensures declined { IfErr result (Declined line) }
+        ensures adds { Adds (standing (progress_of self.old) line (thread_stands (progress_of self.old)) (means thread_line)) self.new result }
     {
-        let line = words.line;
-        if self.bound.is_none() || self.fault_count > 0 {
-            return Err(no_form(line));
+        if self.bound.is_none() || !self.faults.is_empty() {
+            return Err(Reason::NoForm.at(line));
         }
-        words.end()?;
         self.push_thread(line)
     }
 
-    fn add_instruction(&mut self, mnemonic: &[u8], words: Words<'_>) -> Result<(), Refusal>
-        ensures declined { IfErr result (Declined words.entry.line) }
-        ensures adds { Adds (standing (progress_of self.old) words.entry.line (instruction_stands (progress_of self.old)) (instruction_form mnemonic.now (left words.entry))) self.new result }
+    fn add_instruction(&mut self, written: WrittenInstruction<'_>, line: u16) -> Result<(), Refusal>
+        ensures declined { IfErr result (Declined line) }
+        ensures adds { Adds (standing (progress_of self.old) line (instruction_stands (progress_of self.old)) (written_read written.entry)) self.new result }
     {
-        let line = words.line;
-        if self.thread_count == 0 || self.fault_count > 0 {
-            return Err(no_form(line));
+        if self.threads.is_empty() || !self.faults.is_empty() {
+            return Err(Reason::NoForm.at(line));
         }
-        let instruction = instruction(words.instruction(mnemonic)?, line)?;
-        self.push_instruction(instruction, line)
+        self.push_instruction(instruction(written, line)?, line)
     }
 
-    fn add_fault(&mut self, words: Words<'_>) -> Result<(), Refusal>
-        ensures declined { IfErr result (Declined words.entry.line) }
-        ensures adds { Adds (standing (progress_of self.old) words.entry.line (fault_stands (progress_of self.old)) (fault_form (left words.entry))) self.new result }
+    fn add_fault(&mut self, words: Words<'_>, line: u16) -> Result<(), Refusal>
+        ensures declined { words.entry.line ≡ line → IfErr result (Declined line) }
+        ensures adds { words.entry.line ≡ line → Adds (standing (progress_of self.old) line (fault_stands (progress_of self.old)) (fault_read words.entry)) self.new result }
     {
-        let line = words.line;
         if self.bound.is_none() {
-            return Err(no_form(line));
+            return Err(Reason::NoForm.at(line));
         }
-        let fault = fault_line(words)?;
-        self.push_fault(fault, line)
+        self.push_fault(fault_line(words)?, line)
     }
 
-    // Adds what a line says by its first word and the rest; a line without words says nothing.
+    // Adds what a line says, if it may stand here and there is room for it.
+    pub fn add(&mut self, form: Line<'_>, line: u16) -> Result<(), Refusal>
+        ensures declined { stands_on line form.entry → IfErr result (Declined line) }
+        ensures adds { stands_on line form.entry → Adds (standing (progress_of self.old) line (line_stands (progress_of self.old) form.entry) (line_read form.entry)) self.new result }
+    {
+        match form {
+            Line::Bound(digits) => self.add_bound(digits, line),
+            Line::Thread => self.add_thread(line),
+            Line::Instruction(written) => self.add_instruction(written, line),
+            Line::Fault(words) => self.add_fault(words, line),
+        }
+    }
+
+    // Adds what a line says by its words; a line without words says nothing.
     pub(crate) fn add_words(&mut self, mut words: Words<'_>) -> Result<(), Refusal>
         ensures declined { IfErr result (Declined words.entry.line) }
         ensures adds { Adds (worded (progress_of self.old) words.entry.line (left words.entry)) self.new result }
@@ -180,14 +139,7 @@ impl Draft {
         let Some(first) = words.next() else {
             return Ok(());
         };
-        let Token::Word { bytes, .. } = first else {
-            return Err(no_form(words.line));
-        };
-        match bytes {
-            b"bound" => self.add_bound(words),
-            b"thread" => self.add_thread(words),
-            b"fault" => self.add_fault(words),
-            mnemonic => self.add_instruction(mnemonic, words),
-        }
+        let line = words.line;
+        self.add(words.form(first)?, line)
     }
 }

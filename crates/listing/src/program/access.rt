@@ -1,10 +1,9 @@
 // What the layers above ask of a program.
-ghost use Rattle.std.specs.Prelude.{◌≡◌, ℕ, ◌+◌, ◌<◌, ◌≤◌, true, length, OnSome};
-ghost use Rattle.listing.specs.Limits.{all};
+ghost use Rattle.std.specs.Prelude.{◌≡◌, ℕ, ◌+◌, ◌<◌, ◌≤◌, true, [], length, slice_index_or, OnSome};
+ghost use Rattle.listing.specs.Limits.{all, together};
 ghost use Rattle.listing.specs.Code.{code_of, length_of, fetched, place_of, thread_at, places, lines_of, line_sound};
-ghost use Rattle.listing.specs.Reading.{together};
 
-use crate::code::{FaultLine, Instruction};
+use crate::code::{FaultLine, Instruction, together};
 use crate::program::Program;
 
 impl Program {
@@ -17,10 +16,21 @@ impl Program {
     }
 
     pub fn threads(&self) -> u8
-        ensures value { result ≡ self.now.thread_count }
+        ensures value { result ≡ length self.now.threads }
         ensures limit { result ≤ 4 }
     {
-        self.thread_count
+        self.threads.len() as u8
+    }
+
+    // The instructions of a thread, none where there is no such thread.
+    fn code(&self, thread: u8) -> &[Instruction]
+        ensures value { result.now ≡ slice_index_or self.now.threads thread [] }
+        ensures limit { length result.now ≤ 16 }
+    {
+        match self.threads.as_slice().get(usize::from(thread)) {
+            Some(code) => code.as_slice(),
+            None => &[],
+        }
     }
 
     // The number of instructions of a thread, 0 where there is no such thread.
@@ -28,11 +38,7 @@ impl Program {
         ensures value { result ≡ length_of self.now thread }
         ensures limit { result ≤ 16 }
     {
-        if thread < self.thread_count {
-            self.threads[usize::from(thread)].length
-        } else {
-            0
-        }
+        self.code(thread).len() as u8
     }
 
     // The instruction at which a thread stands, if it has not ended.
@@ -40,11 +46,7 @@ impl Program {
         ensures value { result ≡ fetched self.now thread at }
         ensures limit { OnSome result ((at < length_of self.now thread) × (at < 16)) }
     {
-        if thread < self.thread_count && at < self.threads[usize::from(thread)].length {
-            Some(self.threads[usize::from(thread)].instructions[usize::from(at)])
-        } else {
-            None
-        }
+        self.code(thread).get(usize::from(at)).copied()
     }
 
     // The number of instructions of the threads before this one.
@@ -53,11 +55,8 @@ impl Program {
         ensures value { result ≡ place_of self.now thread 0 }
         ensures limit { result ≤ 32 }
     {
-        let mut before = 0;
-        for t in 0..usize::from(thread) {
-            before += self.threads[t].length;
-        }
-        before
+        let threads = self.threads.as_slice();
+        together(&threads[..threads.len().min(usize::from(thread))]) as u8
     }
 
     // The place of an instruction: its number counted through the whole listing from 0.
@@ -99,6 +98,6 @@ impl Program {
         ensures value { result.now ≡ lines_of self.now }
         ensures sound { all line_sound result.now ≡ true }
     {
-        &self.faults[0..usize::from(self.fault_count)]
+        self.faults.as_slice()
     }
 }

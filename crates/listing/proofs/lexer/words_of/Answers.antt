@@ -20,7 +20,7 @@ returns-in-Other-clause-content c =
     let bs = c.args.bytes.now in
     let i = c.loop-i.i in
     let told = other_kind (get_or bs i 0) c.in-Other.ensures in
-    ((refl, refl), content_fails bs i (omega arith) c.loop-i.invariant.0 told.0 told.1)
+    (rw c.at.ensures (refl, refl), content_fails bs i (omega arith) c.loop-i.invariant.0 told.0 told.1)
 
 pub loop-i-preserved : goal.loop-i-preserved
 loop-i-preserved c =

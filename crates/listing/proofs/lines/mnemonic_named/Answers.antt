@@ -5,7 +5,7 @@ use Rattle.listing.proofs.lines.mnemonic_named.Goals.{in_default-via-then-word-l
 
 pub returns-in_default : goal.returns-in_default
 returns-in_default c = (
-  c.no_form.ensures.refusal,
+  c.at.ensures,
   λ ws. no_row c.args.word.now ws
       (elim c.in_default.branch [
         | in_default-via-then-word-lt3 w ↦ omega (arith, ltb-true, ltb-false)

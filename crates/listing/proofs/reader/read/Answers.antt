@@ -15,7 +15,16 @@ pub returns-then-text-gt-MOST_BYTES : goal.returns-then-text-gt-MOST_BYTES
 returns-then-text-gt-MOST_BYTES c =
     let t = c.args.text.now in
     let is = too_long t (omega arith) in
-    record { length = length_promised t (Err (refusal TextTooLong 0)) (exactly_read t _ is) (first_wrong_read t _ is); reason = reason_promised t (Err (refusal TextTooLong 0)) (first_wrong_read t _ is); value = is; exactly = exactly_read t _ is; first_wrong = first_wrong_read t _ is; one_or_other = one_or_other _ }
+    let e = c.refusal.ensures in
+    rw e
+    record {
+      length = length_promised t (Err (refusal TextTooLong 0)) (exactly_read t _ is) (first_wrong_read t _ is);
+      reason = reason_promised t (Err (refusal TextTooLong 0)) (first_wrong_read t _ is);
+      value = is;
+      exactly = exactly_read t _ is;
+      first_wrong = first_wrong_read t _ is;
+      one_or_other = one_or_other _;
+    }
 
 pub returns-in_err-read_line : goal.returns-in_err-read_line
 returns-in_err-read_line c =

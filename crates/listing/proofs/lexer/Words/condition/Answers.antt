@@ -20,7 +20,7 @@ pub returns-in_default-first-clause-says : goal.returns-in_default-first-clause-
 returns-in_default-first-clause-says c =
     let t = c.in-Some.ensures in
     let word = subst (λ t. Comes t (left c.args.self.now) (left c.next.new.self) c.args.self.now.line) c.in_default-first.is t.comes in
-    (c.no_form.ensures.refusal ∙ ap (refusal NoForm) t.line, digits_no_condition c.in_default-first.field-0.now word.0 word.1.1)
+    (c.at.ensures ∙ ap (refusal NoForm) t.line, digits_no_condition c.in_default-first.field-0.now word.0 word.1.1)
 
 pub returns-in_err-digits-in-at-clause-says : goal.returns-in_err-digits-in-at-clause-says
 returns-in_err-digits-in-at-clause-says c =
@@ -140,7 +140,7 @@ pub returns-in_default-bytes-clause-says : goal.returns-in_default-bytes-clause-
 returns-in_default-bytes-clause-says c =
     let t = c.in-Some.ensures in
     let word = subst (λ t. Comes t (left c.args.self.now) (left c.next.new.self) c.args.self.now.line) c.in-Word.is t.comes in (
-      c.no_form-in_default-bytes.ensures.refusal ∙ ap (refusal NoForm) t.line,
+      c.at-in_default-bytes.ensures ∙ ap (refusal NoForm) t.line,
       no_condition c.in-Word.bytes.now (left c.next.new.self) word.0
           (elim c.in_default-bytes.branch [
             | in_default-bytes-via-then-bytes-lt2 w ↦ omega (arith, ltb-true, ltb-false)

@@ -11,7 +11,7 @@ use Rattle.listing.proofs.lexer.Words.digits.Goals.{in_default-via-in-Some+in_de
 
 pub returns-in_default-clause-says : goal.returns-in_default-clause-says
 returns-in_default-clause-says c = λ low high. (
-  c.no_form.ensures.refusal ∙ ap (refusal NoForm) c.next.ensures.line,
+  c.at.ensures ∙ ap (refusal NoForm) c.next.ensures.line,
   no_number_taken low high c.next.result (left c.args.self.now) (left c.next.new.self) c.args.self.now.line c.next.ensures.comes
       (λ bytes at e. elim c.in_default.branch [ in_default-via-in-Some+in_default w ↦ search rules | in_default-via-in_default w ↦ search rules ]),
 )

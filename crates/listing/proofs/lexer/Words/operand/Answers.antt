@@ -18,7 +18,7 @@ pub returns-in_default-register_named-clause-says : goal.returns-in_default-regi
 returns-in_default-register_named-clause-says c =
     let h = c.in-Some.ensures in
     let are = word_first c.in-Some.first c.in-Word.bytes c.in-Word.line c.args.self.now.line (left c.args.self.now) (left c.next.new.self) c.in-Word.is h.comes in
-    (c.no_form-in_default-register_named.ensures.refusal ∙ ap (refusal NoForm) h.line, ap (first operand) are.0 ∙ operand_word c.in-Word.bytes.now are.1 ∙ ap (λ o. apply (means operands.Register) (called o)) (sym c.register_named.ensures.value ∙ c.in_default-register_named.is))
+    (c.at-in_default-register_named.ensures ∙ ap (refusal NoForm) h.line, ap (first operand) are.0 ∙ operand_word c.in-Word.bytes.now are.1 ∙ ap (λ o. apply (means operands.Register) (called o)) (sym c.register_named.ensures.value ∙ c.in_default-register_named.is))
 
 pub returns-in-Some-register_named-clause-says : goal.returns-in-Some-register_named-clause-says
 returns-in-Some-register_named-clause-says c =

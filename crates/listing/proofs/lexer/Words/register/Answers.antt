@@ -8,7 +8,7 @@ use Rattle.listing.proofs.lexer.Words.register.Goals.{in_default-via-in-Some+in_
 
 pub returns-in_default-clause-says : goal.returns-in_default-clause-says
 returns-in_default-clause-says c = (
-  c.no_form.ensures.refusal ∙ ap (refusal NoForm) c.next.ensures.line,
+  c.at.ensures ∙ ap (refusal NoForm) c.next.ensures.line,
   no_register_taken c.next.result (left c.args.self.now) (left c.next.new.self) c.args.self.now.line c.next.ensures.comes
       (λ bytes at e. elim c.in_default.branch [ in_default-via-in-Some+in_default w ↦ search rules | in_default-via-in_default w ↦ search rules ]),
 )

@@ -1,8 +1,11 @@
-use Rattle.std.proofs.Common.{◌∙◌}
-use Rattle.listing.proofs.ProgramLimits.{places_listed}
+use Rattle.std.proofs.Common.{ap, ◌∙◌, arith}
+use Rattle.std.proofs.lemmas.List.{take_all}
+use Rattle.listing.specs.Limits.{together}
+use Rattle.listing.proofs.Programs.{few_threads}
 use Rattle.listing.proofs.program.Program.places.Goals as goal
 
-pub returns : goal.returns
-returns c =
-    let first = c.first_place.ensures in
-    record { value = first.value; listed = first.value ∙ places_listed c.args.self.now; limit = first.limit }
+pub returns-clause-listed : goal.returns-clause-listed
+returns-clause-listed c =
+    let p = c.args.self.now in
+    let whole = ap together (take_all 4 p.threads (few_threads p)) in
+    omega (arith, whole)

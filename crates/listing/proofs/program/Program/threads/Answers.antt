@@ -1,6 +1,0 @@
-use Rattle.std.proofs.Common.{refl}
-use Rattle.listing.proofs.Bounds.{kept}
-use Rattle.listing.proofs.program.Program.threads.Goals as goal
-
-pub returns : goal.returns
-returns c = record { value = refl; limit = (kept c.args.self.now).few_threads }
