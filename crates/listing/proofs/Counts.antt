@@ -1,5 +1,5 @@
 -- Counts from one number to another, and lists that have an element. Assumes nothing.
-use Rattle.std.proofs.Common.{sym, ap, ◌∙◌, false, Bool, ◌≡◌, ℕ, ◌≤◌, true, not, eqb, leb, List, [], ◌∷◌, ◌++◌, length, refl, arith}
+use Rattle.std.proofs.Common.{sym, ap, ◌∙◌, Bool, ◌≡◌, ℕ, ◌≤◌, true, not, eqb, leb, List, [], ◌∷◌, ◌++◌, length, refl, arith}
 use Rattle.std.proofs.lemmas.Bool.{and_parts, and_from, leb-true, le-leb, ne_eqb, not_from_false}
 use Rattle.listing.specs.Limits.{between}
 use Rattle.listing.specs.Reading.{some}

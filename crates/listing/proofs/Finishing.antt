@@ -8,7 +8,7 @@ use Rattle.listing.specs.Drafts.{progress_of}
 use Rattle.listing.specs.Limits.{all, condition_there, within_limits}
 use Rattle.listing.specs.Reading.{some, first_failing, or_else, jump_failing, refusal, target_failing, targeted, complete, finished}
 use Rattle.listing.proofs.Pairs.{pairwise_lengths}
-use Rattle.listing.proofs.Sound.{Started, Sound}
+use Rattle.listing.proofs.Sound.{Sound}
 use Rattle.listing.proofs.WordsSpell.{end_keeps}
 
 module _ (d : Draft) where

@@ -1,5 +1,5 @@
 -- What the first word of a line decides. Assumes nothing.
-use Rattle.std.proofs.Common.{◌≡◌, ℕ, true, false, List, ◌∷◌, Ok, Err, Result, Bor, codes, refl, ap, ◌∙◌}
+use Rattle.std.proofs.Common.{◌≡◌, ℕ, true, false, List, Ok, Err, Result, Bor, codes, refl, ap, ◌∙◌}
 use Rattle.std.proofs.lemmas.Bool.{both_ways}
 use Rattle.listing.specs.declared.lexer.Token.{Token}
 use Rattle.listing.specs.declared.lexer.Token.TheVariants.{Word, Number}

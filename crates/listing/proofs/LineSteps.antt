@@ -1,14 +1,11 @@
 -- What a line that is taken says, when a line is taken, and what lines that are taken keep. Assumes nothing.
-use Rattle.std.proofs.Common.{◌≡◌, ℕ, ◌+◌, Bool, true, ◌&&◌, List, [], ◌∷◌, ◌++◌, length, Ok, sym, refl, ap, ◌∙◌, subst, arith}
+use Rattle.std.proofs.Common.{◌≡◌, ℕ, ◌+◌, Bool, true, List, [], ◌∷◌, ◌++◌, Ok, sym, refl, ap, ◌∙◌, subst, arith}
 use Rattle.std.proofs.lemmas.List.{append-nil, append_assoc}
-use Rattle.listing.specs.declared.code.Condition.{Condition}
 use Rattle.listing.specs.declared.code.Instruction.{Instruction}
 use Rattle.listing.specs.declared.code.Instruction.TheVariants as instruction
 use Rattle.listing.specs.Forms.{Says, no_form, out_of_range, means, Line, bound_line, thread_line, instruction_line, fault_line, form}
-use Rattle.listing.specs.Limits.{all, between}
 use Rattle.listing.specs.Reading.{Progress, bound_stands, thread_stands, instruction_stands, fault_stands, may_stand, room, with_line, held, worded}
 use Rattle.listing.specs.Spelling.{Spelled, Pairwise}
-use Rattle.listing.specs.Values.{condition_fits}
 use Rattle.listing.proofs.FormSpells.{line_items, line_ranges, form_spelled, spelled_form}
 use Rattle.listing.proofs.Results.{passed, went_on}
 use Rattle.listing.proofs.WordLines.{with_words, read_words}

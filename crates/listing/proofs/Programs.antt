@@ -1,5 +1,5 @@
 -- What a program holds keeps the limits of a listing, and is all of it: programs that hold the same are equal. Assumes nothing.
-use Rattle.std.proofs.Common.{◌≡◌, ℕ, zero, suc, ◌+◌, ◌<◌, ◌≤◌, true, ltb, leb, List, [], ◌∷◌, length, get_or, take, refl, ap, zero-le, arith}
+use Rattle.std.proofs.Common.{◌≡◌, ℕ, zero, suc, ◌+◌, ◌<◌, ◌≤◌, true, ltb, List, [], ◌∷◌, length, get_or, take, refl, ap, zero-le, arith}
 use mathlib.Core.Bool.{So-prop}
 use mathlib.Core.HLevel.{is_prop→PathP}
 use Rattle.std.proofs.lemmas.Bool.{and_parts, and_from, le-leb, lt-ltb, ltb-true}
@@ -8,7 +8,7 @@ use Rattle.listing.specs.declared.code.Condition.TheVariants as condition
 use Rattle.listing.specs.declared.code.Instruction.{Instruction}
 use Rattle.listing.specs.declared.program.Program.{Program}
 use Rattle.listing.specs.Code.{Code, code_of, condition_sound, length_of, line_sound, lines_of, place_of}
-use Rattle.listing.specs.Limits.{all, between, condition_there, fault_keeps, thread_keeps, together, within_limits}
+use Rattle.listing.specs.Limits.{all, condition_there, fault_keeps, thread_keeps, together, within_limits}
 use Rattle.listing.proofs.Counts.{at_most}
 use Rattle.listing.proofs.Kept.{all_weaker}
 use Rattle.listing.proofs.Within.{Within, within, fault_parts, thread_parts}

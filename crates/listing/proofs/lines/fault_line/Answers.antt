@@ -1,7 +1,6 @@
-use Rattle.std.proofs.Common.{◌≡◌, ◌<◌, true, [], length, Ok, Err, sym, refl, ap, ◌∙◌, subst, arith, rules}
+use Rattle.std.proofs.Common.{◌≡◌, [], length, Ok, Err, sym, refl, ap, ◌∙◌, subst, arith}
 use Rattle.std.proofs.lemmas.Bool.{and_from, eqb-true, eqb-false, ltb-true, ltb-false}
 use Rattle.listing.specs.Forms.{all_conditions, more}
-use Rattle.listing.specs.Limits.{between}
 use Rattle.listing.specs.Taking.{left, said, fitted, TookCondition}
 use Rattle.listing.specs.Values.{condition_fits}
 use Rattle.listing.proofs.Counts.{is_between}

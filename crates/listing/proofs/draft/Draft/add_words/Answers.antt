@@ -1,7 +1,6 @@
-use Rattle.std.proofs.Common.{◌≡◌, ap, ◌∙◌, refl, subst, rules}
+use Rattle.std.proofs.Common.{subst}
 use Rattle.std.proofs.lemmas.Result.{err_from_is_err_and}
 use Rattle.listing.specs.Drafts.{Adds, progress_of}
-use Rattle.listing.specs.Reading.{worded}
 use Rattle.listing.specs.Taking.{left}
 use Rattle.listing.proofs.FirstWords.{worded_not, worded_by}
 use Rattle.listing.proofs.draft.Draft.add_words.Goals as goal

@@ -1,4 +1,4 @@
-use Rattle.std.proofs.Common.{◌∙◌, sym, rules}
+use Rattle.std.proofs.Common.{rules}
 use Rattle.listing.specs.Reading.{some}
 use Rattle.listing.proofs.Counts.{some_counted}
 use Rattle.listing.proofs.draft.Draft.check_threads_used.Goals as goal

@@ -1,4 +1,4 @@
-use Rattle.std.proofs.Common.{◌≡◌, ◌+◌, ◌-◌, ◌<◌, true, ltb, ◌&&◌, length, get_or, refl, ap, ◌∙◌, sym, arith, rules}
+use Rattle.std.proofs.Common.{◌≡◌, ◌+◌, ◌-◌, ltb, length, get_or, refl, ap, ◌∙◌, sym, arith, rules}
 use Rattle.std.proofs.lemmas.Bool.{and_parts, ltb-true}
 use Rattle.listing.specs.Drafts.{progress_of}
 use Rattle.listing.specs.Forms.{instruction_line}

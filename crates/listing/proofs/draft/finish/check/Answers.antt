@@ -1,4 +1,4 @@
-use Rattle.std.proofs.Common.{◌≡◌, ◌⊎◌, true, false, length, ap, sym, refl, ◌∙◌, inl, inr}
+use Rattle.std.proofs.Common.{◌≡◌, ◌⊎◌, true, false, length, sym, refl, ◌∙◌, inl, inr}
 use Rattle.listing.proofs.Checking.{passed, failed, ended}
 use Rattle.listing.proofs.draft.finish.check.Goals as goal
 

@@ -1,4 +1,3 @@
-use Rattle.std.proofs.Common.{rules}
 use Rattle.listing.proofs.Programs.{lines_sound}
 use Rattle.listing.proofs.program.Program.faults.Goals as goal
 

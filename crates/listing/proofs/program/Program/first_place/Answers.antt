@@ -1,4 +1,4 @@
-use Rattle.std.proofs.Common.{◌≡◌, ◌≤◌, take, ◌∙◌, ap, arith, rules}
+use Rattle.std.proofs.Common.{◌≤◌, take, ◌∙◌, ap, arith}
 use Rattle.listing.specs.Limits.{together}
 use Rattle.listing.proofs.Programs.{kept, together_part}
 use Rattle.listing.proofs.program.Program.first_place.Goals as goal
