@@ -1,56 +1,70 @@
 -- Where a search for the first byte that stops cuts a list. Assumes nothing.
-use Rattle.std.proofs.Common.{◌≡◌, ℕ, zero, suc, ◌+◌, ◌-◌, ◌<◌, ◌≤◌, Bool, true, false, cond, List, [], ◌∷◌, length, get_or, take, drop, sym, refl, ap, ◌∙◌, subst, arith}
+use Rattle.std.proofs.Common.{◌≡◌, ℕ, suc, ◌+◌, ◌-◌, ◌<◌, ◌≤◌, Bool, true, false, cond, not, ltb, List, [], ◌∷◌, length, take, drop, Some, None, Option, sym, refl, ap, ◌∙◌, arith}
+use Rattle.std.specs.List.{position_or_len}
+use Rattle.std.specs.Option.{unwrap_or}
+use Rattle.std.specs.Prelude.{position}
+use Rattle.std.proofs.lemmas.Bool.{ltb-false}
 use Rattle.std.proofs.lemmas.List.{take_all, take_rest, drop_all, drop-drop}
-use Rattle.std.proofs.lemmas.Bool.{and_left, and_right}
-use Rattle.listing.specs.Limits.{all}
-use Rattle.listing.specs.Words.{upto, onward, ends, comments, permitted, line_of, rest_of, content_of}
-
--- none of the first n bytes stops
-abbrev pub Passes : (ℕ → Bool) → List ℕ → ℕ → Type 0
-Passes stop bs n = (k : ℕ) → k < n → stop (get_or bs k 0) ≡ false
-
--- a slice from the start
-pub front : (bs : List ℕ) (n : ℕ) → take (n - 0) bs ≡ take n bs
-front bs n = let e : n - 0 ≡ n = omega arith in ap (λ k. take k bs) e
+use Rattle.std.proofs.lemmas.List.Sums.{prefix_len-le-length}
+use Rattle.listing.specs.Words.{upto, onward, parts, past_spaces, next_word, after_word, ends, line_of, rest_of}
 
 module _ (stop : ℕ → Bool) where
-  pub upto_at : (bs : List ℕ) (n : ℕ) → n ≤ length bs → Passes stop bs n → (n < length bs → stop (get_or bs n 0) ≡ true) → upto stop bs ≡ take n bs
-  upto_at [] zero l before here = refl
-  upto_at [] (suc n) l before here = refl
-  upto_at (b ∷ bs) zero l before here = subst (λ t. cond t [] (b ∷ upto stop bs) ≡ []) (sym (here (omega arith))) refl
-  upto_at (b ∷ bs) (suc n) l before here =
-      subst (λ t. cond t [] (b ∷ upto stop bs) ≡ b ∷ take n bs) (sym (before 0 (omega arith)))
-      (ap (λ r. b ∷ r) (upto_at bs n (omega arith) (λ k h. before (suc k) (omega arith)) (λ h. here (omega arith))))
+  pub upto_is : (bs : List ℕ) → take (position_or_len stop bs) bs ≡ upto stop bs
+  upto_is [] = refl
+  upto_is (b ∷ bs) = by (stop b) (omega arith) (upto_is bs)
+    where
+      by : (t : Bool) → 1 + position_or_len stop bs ≡ suc (position_or_len stop bs) → take (position_or_len stop bs) bs ≡ upto stop bs
+          → take (cond (not t) (1 + position_or_len stop bs) 0) (b ∷ bs) ≡ cond t [] (b ∷ upto stop bs)
+      by true one h = refl
+      by false one h = ap (λ n. take n (b ∷ bs)) one ∙ ap (λ cs. b ∷ cs) h
 
-  pub onward_at : (bs : List ℕ) (n : ℕ) → n ≤ length bs → Passes stop bs n → (n < length bs → stop (get_or bs n 0) ≡ true) → onward stop bs ≡ drop n bs
-  onward_at [] zero l before here = refl
-  onward_at [] (suc n) l before here = refl
-  onward_at (b ∷ bs) zero l before here = subst (λ t. cond t (b ∷ bs) (onward stop bs) ≡ b ∷ bs) (sym (here (omega arith))) refl
-  onward_at (b ∷ bs) (suc n) l before here =
-      subst (λ t. cond t (b ∷ bs) (onward stop bs) ≡ drop n bs) (sym (before 0 (omega arith)))
-      (onward_at bs n (omega arith) (λ k h. before (suc k) (omega arith)) (λ h. here (omega arith)))
+  pub onward_is : (bs : List ℕ) → drop (position_or_len stop bs) bs ≡ onward stop bs
+  onward_is [] = refl
+  onward_is (b ∷ bs) = by (stop b) (omega arith) (onward_is bs)
+    where
+      by : (t : Bool) → 1 + position_or_len stop bs ≡ suc (position_or_len stop bs) → drop (position_or_len stop bs) bs ≡ onward stop bs
+          → drop (cond (not t) (1 + position_or_len stop bs) 0) (b ∷ bs) ≡ cond t (b ∷ bs) (onward stop bs)
+      by true one h = refl
+      by false one h = ap (λ n. drop n (b ∷ bs)) one ∙ h
 
--- a byte before the comment that is not permitted
-pub content_fails : (bs : List ℕ) (n : ℕ) → n < length bs → Passes comments bs n → comments (get_or bs n 0) ≡ false → permitted (get_or bs n 0) ≡ false → all permitted (content_of bs) ≡ false
-content_fails [] n l before here bad = absurd (omega arith)
-content_fails (b ∷ bs) zero l before here bad =
-    subst (λ t. all permitted (cond t [] (b ∷ upto comments bs)) ≡ false) (sym here) (and_left (permitted b) (all permitted (upto comments bs)) bad)
-content_fails (b ∷ bs) (suc n) l before here bad =
-    subst (λ t. all permitted (cond t [] (b ∷ upto comments bs)) ≡ false) (sym (before 0 (omega arith)))
-    (and_right (permitted b) (all permitted (upto comments bs)) (content_fails bs n (omega arith) (λ k h. before (suc k) (omega arith)) here bad))
+  within : (bs : List ℕ) → position_or_len stop bs ≤ length bs
+  within bs = prefix_len-le-length (λ b. not (stop b)) bs
+
+  -- the first byte that stops, or the length
+  pub found_or_all : (bs : List ℕ) → unwrap_or (position stop bs) (length bs) ≡ position_or_len stop bs
+  found_or_all bs = by (ltb (position_or_len stop bs) (length bs)) refl
+    where
+      by : (t : Bool) → ltb (position_or_len stop bs) (length bs) ≡ t → unwrap_or (cond t (Some (position_or_len stop bs)) None) (length bs) ≡ position_or_len stop bs
+      by true h = refl
+      by false h = let far = ltb-false (position_or_len stop bs) (length bs) h in omega (arith, within bs)
+
+  pub cut_before : (bs : List ℕ) (n : ℕ) → n ≡ unwrap_or (position stop bs) (length bs) → take n bs ≡ upto stop bs
+  cut_before bs n e = ap (λ k. take k bs) (e ∙ found_or_all bs) ∙ upto_is bs
+
+  pub cut_after : (bs : List ℕ) (n : ℕ) → n ≡ unwrap_or (position stop bs) (length bs) → drop n bs ≡ onward stop bs
+  cut_after bs n e = ap (λ k. drop k bs) (e ∙ found_or_all bs) ∙ onward_is bs
 
 -- a line end at n
-pub line_front : (bs : List ℕ) (n : ℕ) → n < length bs → Passes ends bs n → ends (get_or bs n 0) ≡ true → take (n - 0) bs ≡ line_of bs
-line_front bs n l before here = front bs n ∙ sym (upto_at ends bs n (omega arith) before (λ _. here))
+pub line_front : (bs : List ℕ) (n : ℕ) → position ends bs ≡ Some n → take n bs ≡ line_of bs
+line_front bs n at = cut_before ends bs n (sym (ap (λ o. unwrap_or o (length bs)) at))
 
-pub line_rest : (bs : List ℕ) (n : ℕ) → n < length bs → Passes ends bs n → ends (get_or bs n 0) ≡ true → take (length bs - (n + 1)) (drop (n + 1) bs) ≡ rest_of bs
-line_rest bs n l before here = take_rest bs (n + 1) ∙ sym (drop-drop 1 n bs) ∙ sym (ap (λ r. drop 1 r) (onward_at ends bs n (omega arith) before (λ _. here)))
+pub line_rest : (bs : List ℕ) (n : ℕ) → position ends bs ≡ Some n → take (length bs - (n + 1)) (drop (n + 1) bs) ≡ rest_of bs
+line_rest bs n at =
+    take_rest bs (n + 1) ∙ sym (drop-drop 1 n bs) ∙ ap (λ r. drop 1 r) (cut_after ends bs n (sym (ap (λ o. unwrap_or o (length bs)) at)))
 
 -- no line end
-pub line_whole : (bs : List ℕ) → Passes ends bs (length bs) → bs ≡ line_of bs
-line_whole bs before = sym (upto_at ends bs (length bs) (omega arith) before (λ h. absurd (omega arith)) ∙ take_all (length bs) bs (omega arith))
+pub line_whole : (bs : List ℕ) → position ends bs ≡ None → bs ≡ line_of bs
+line_whole bs none = sym (take_all (length bs) bs (omega arith)) ∙ cut_before ends bs (length bs) (sym (ap (λ o. unwrap_or o (length bs)) none))
 
-pub line_none_left : (bs : List ℕ) → Passes ends bs (length bs) → take (length bs - length bs) (drop (length bs) bs) ≡ rest_of bs
-line_none_left bs before =
-    take_rest bs (length bs) ∙ drop_all (length bs) bs (omega arith)
-    ∙ sym (ap (λ r. drop 1 r) (onward_at ends bs (length bs) (omega arith) before (λ h. absurd (omega arith)) ∙ drop_all (length bs) bs (omega arith)))
+pub line_none_left : (bs : List ℕ) → position ends bs ≡ None → [] ≡ rest_of bs
+line_none_left bs none =
+    let left = cut_after ends bs (length bs) (sym (ap (λ o. unwrap_or o (length bs)) none)) in
+    ap (λ r. drop 1 r) (sym (drop_all (length bs) bs (omega arith)) ∙ left)
+
+-- the first word of some bytes, and what follows it
+pub cut_word : (bs cs : List ℕ) (o q : Option ℕ) (n m : ℕ) (w r : List ℕ) → o ≡ position (λ b. not (parts b)) bs → n ≡ unwrap_or o (length bs) → cs ≡ take (length bs - n) (drop n bs)
+    → q ≡ position parts cs → m ≡ unwrap_or q (length cs) → w ≡ take m cs → r ≡ drop m cs → (w ≡ next_word bs) × (r ≡ after_word bs)
+cut_word bs cs o q n m w r at start sliced to end front back =
+    let past : cs ≡ past_spaces bs = sliced ∙ (take_rest bs n ∙ cut_after (λ b. not (parts b)) bs n (start ∙ ap (λ p. unwrap_or p (length bs)) at)) in
+    let found : m ≡ unwrap_or (position parts cs) (length cs) = end ∙ ap (λ p. unwrap_or p (length cs)) to in
+    (front ∙ (cut_before parts cs m found ∙ ap (upto parts) past), back ∙ (cut_after parts cs m found ∙ ap (onward parts) past))

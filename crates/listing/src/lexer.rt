@@ -1,11 +1,11 @@
 // From the bytes of a text to its lines, and from a line to its words and numbers.
-ghost use Rattle.std.specs.Prelude.{◌≡◌, ◌<◌, ◌≤◌, true, false, [], length, take, drop, IfErr, MatchOption, MatchResult, OnSome};
+ghost use Rattle.std.specs.Prelude.{◌≡◌, ◌<◌, ◌≤◌, true, false, [], length, not, position, IfErr, MatchOption, MatchResult, OnSome};
 ghost use Rattle.listing.specs.declared.refusal.Reason.TheVariants.{ByteNotPermitted};
 ghost use Rattle.listing.specs.Lines.{Refused};
 ghost use Rattle.listing.specs.Reading.{refusal};
 ghost use Rattle.listing.specs.Taking.{Comes, left, size};
 ghost use Rattle.listing.specs.Limits.{all};
-ghost use Rattle.listing.specs.Words.{Tells, after_word, content_of, kind, line_of, next_word, onward, parts, past_spaces, permitted, rest_of, upto};
+ghost use Rattle.listing.specs.Words.{Tells, after_word, comments, content_of, ends, is_digit, kind, line_of, next_word, parts, permitted, rest_of};
 
 use crate::refusal::{Reason, Refusal};
 
@@ -44,18 +44,70 @@ fn kind_of(byte: u8) -> Kind
     }
 }
 
+fn is_comment(byte: u8) -> bool
+    ensures { result ≡ comments byte }
+{
+    matches!(kind_of(byte), Kind::Comment)
+}
+
+fn is_digit(byte: u8) -> bool
+    ensures { result ≡ is_digit byte }
+{
+    matches!(kind_of(byte), Kind::Digit)
+}
+
+fn is_permitted(byte: u8) -> bool
+    ensures { result ≡ permitted byte }
+{
+    matches!(kind_of(byte), Kind::Letter | Kind::Digit | Kind::Space)
+}
+
+fn line_end(text: &[u8]) -> Option<usize>
+    ensures { result ≡ position ends text.now }
+{
+    text.iter().position(|byte| *byte == b'\n')
+}
+
+fn comment_start(line: &[u8]) -> Option<usize>
+    ensures { result ≡ position comments line.now }
+{
+    line.iter().position(|byte| is_comment(*byte))
+}
+
+fn all_permitted(bytes: &[u8]) -> bool
+    ensures { result ≡ all permitted bytes.now }
+{
+    bytes.iter().all(|byte| is_permitted(*byte))
+}
+
+fn word_start(bytes: &[u8]) -> Option<usize>
+    ensures { result ≡ position (λ b. not (parts b)) bytes.now }
+{
+    bytes.iter().position(|byte| *byte != b' ')
+}
+
+fn word_end(bytes: &[u8]) -> Option<usize>
+    ensures { result ≡ position parts bytes.now }
+{
+    bytes.iter().position(|byte| *byte == b' ')
+}
+
+fn all_digits(bytes: &[u8]) -> bool
+    ensures { result ≡ all is_digit bytes.now }
+{
+    bytes.iter().all(|byte| is_digit(*byte))
+}
+
 // The first line of a text without its line end, and what follows that.
 pub fn first_line(text: &[u8]) -> (&[u8], &[u8])
     ensures shorter { 0 < length text.now → length result.1.now < length text.now }
     ensures line { result.0.now ≡ line_of text.now }
     ensures rest { result.1.now ≡ rest_of text.now }
 {
-    for (i, byte) in text.iter().enumerate() {
-        if *byte == b'\n' {
-            return (&text[0..i], &text[i + 1..]);
-        }
+    match line_end(text) {
+        Some(end) => (&text[..end], &text[end + 1..]),
+        None => (text, &[]),
     }
-    (text, &text[text.len()..])
 }
 
 // The words of a line, up to its comment.
@@ -63,55 +115,22 @@ pub fn words_of(bytes: &[u8], line: u16) -> Result<Words<'_>, Refusal>
     ensures content { MatchResult result (λ w. (w.line ≡ line) × ((w.rest.now ≡ content_of bytes.now) × (all permitted (content_of bytes.now) ≡ true))) (λ e. Refused ByteNotPermitted line e × (all permitted (content_of bytes.now) ≡ false)) }
     ensures refusal { IfErr result (λ e. e ≡ refusal ByteNotPermitted line) }
 {
-    for (i, byte) in bytes.iter().enumerate() {
-        match kind_of(*byte) {
-            Kind::Comment => return Ok(Words {
-                rest: &bytes[0..i],
-                line,
-            }),
-            Kind::Other => return Err(Reason::ByteNotPermitted.at(line)),
-            Kind::Letter | Kind::Digit | Kind::Space => {}
-        }
+    let rest = &bytes[..comment_start(bytes).unwrap_or(bytes.len())];
+    if all_permitted(rest) {
+        Ok(Words { rest, line })
+    } else {
+        Err(Reason::ByteNotPermitted.at(line))
     }
-    Ok(Words { rest: bytes, line })
-}
-
-fn skip_spaces(bytes: &[u8]) -> &[u8]
-    ensures shorter { length result.now ≤ length bytes.now }
-    ensures rest { result.now ≡ past_spaces bytes.now }
-{
-    for (i, byte) in bytes.iter().enumerate() {
-        if *byte != b' ' {
-            return &bytes[i..];
-        }
-    }
-    &bytes[bytes.len()..]
-}
-
-// How many bytes stand before the first space.
-fn word_length(bytes: &[u8]) -> usize
-    ensures within { result ≤ length bytes.now }
-    ensures word { take result bytes.now ≡ upto parts bytes.now }
-    ensures rest { drop result bytes.now ≡ onward parts bytes.now }
-{
-    for (i, byte) in bytes.iter().enumerate() {
-        if *byte == b' ' {
-            return i;
-        }
-    }
-    bytes.len()
 }
 
 fn token_of(bytes: &[u8], line: u16) -> Token<'_>
     ensures { Tells result bytes.now line }
 {
-    for byte in bytes {
-        match kind_of(*byte) {
-            Kind::Digit => {}
-            _ => return Token::Word { bytes, line },
-        }
+    if all_digits(bytes) {
+        Token::Number { bytes, line }
+    } else {
+        Token::Word { bytes, line }
     }
-    Token::Number { bytes, line }
 }
 
 impl<'a> Words<'a> {
@@ -124,8 +143,8 @@ impl<'a> Words<'a> {
         ensures comes { MatchOption result (left self.old ≡ []) (λ t. Comes t (left self.old) (left self.new) self.old.line) }
         ensures smaller { OnSome result (size self.new < size self.old) }
     {
-        let bytes = skip_spaces(self.rest);
-        let (word, rest) = bytes.split_at(word_length(bytes));
+        let bytes = &self.rest[word_start(self.rest).unwrap_or(self.rest.len())..];
+        let (word, rest) = bytes.split_at(word_end(bytes).unwrap_or(bytes.len()));
         self.rest = rest;
         if word.is_empty() {
             None

@@ -1,18 +1,15 @@
-use Rattle.std.proofs.Common.{◌+◌, length, get_or, ap, arith, length-drop, eq-eqb}
-use Rattle.std.proofs.lemmas.List.{take_rest}
-use Rattle.listing.specs.Words.{ends}
-use Rattle.listing.proofs.Cuts.{Passes, line_front, line_rest, line_whole, line_none_left}
+use Rattle.std.proofs.Common.{◌∙◌, sym}
+use Rattle.listing.proofs.Cuts.{line_front, line_rest, line_whole, line_none_left}
 use Rattle.listing.proofs.lexer.first_line.Goals as goal
 
-pub returns-then-byte-eq10 : goal.returns-then-byte-eq10
-returns-then-byte-eq10 c =
-    let bs = c.args.text.now in
-    let i = c.loop-i.i in
-    let here = eq-eqb (get_or bs i 0) 10 c.if-byte-eq10.true in
-    record { shorter = λ some. omega (arith, ap length (take_rest bs (i + 1)), length-drop (i + 1) bs); line = line_front bs i (omega arith) c.loop-i.invariant here; rest = line_rest bs i (omega arith) c.loop-i.invariant here }
+pub returns-in-Some-clause-line : goal.returns-in-Some-clause-line
+returns-in-Some-clause-line c = line_front c.args.text.now c.in-Some.end (sym c.line_end.ensures ∙ c.in-Some.is)
 
-pub returns : goal.returns
-returns c =
-    let bs = c.args.text.now in
-    let before : Passes ends bs (length bs) = λ k h. c.loop-i.invariant k (omega arith) in
-    record { shorter = λ some. omega (arith, ap length (take_rest bs (length bs)), length-drop (length bs) bs); line = line_whole bs before; rest = line_none_left bs before }
+pub returns-in-Some-clause-rest : goal.returns-in-Some-clause-rest
+returns-in-Some-clause-rest c = line_rest c.args.text.now c.in-Some.end (sym c.line_end.ensures ∙ c.in-Some.is)
+
+pub returns-in-None-clause-line : goal.returns-in-None-clause-line
+returns-in-None-clause-line c = line_whole c.args.text.now (sym c.line_end.ensures ∙ c.in-None.is)
+
+pub returns-in-None-clause-rest : goal.returns-in-None-clause-rest
+returns-in-None-clause-rest c = line_none_left c.args.text.now (sym c.line_end.ensures ∙ c.in-None.is)
