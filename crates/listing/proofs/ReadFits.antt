@@ -1,72 +1,121 @@
--- The values that were read from a line fit. Assumes nothing.
-use Rattle.std.proofs.Common.{◌≡◌, ℕ, Bool, true, false, cond, leb, List, IfSome, Some, None, Option, refl, Bor}
+-- The values that were read from a line are those written there, and fit. Assumes nothing.
+use Rattle.std.proofs.Common.{◌≡◌, ℕ, ◌+◌, ◌-◌, ◌*◌, Bool, true, false, cond, ◌&&◌, leb, List, [], ◌∷◌, IfSome, Some, None, Ok, Err, Option, Result, MatchResult, refl, ap, ap₂, Bor}
 use Rattle.std.proofs.lemmas.Option.{MatchOption-at_some}
 use Rattle.std.proofs.lemmas.Bool.{and_parts, and_from}
 use Rattle.listing.specs.declared.code.Condition.{Condition}
+use Rattle.listing.specs.declared.code.Condition.TheVariants as conditions
 use Rattle.listing.specs.declared.code.Instruction.{Instruction}
+use Rattle.listing.specs.declared.code.Instruction.TheVariants as instructions
+use Rattle.listing.specs.declared.code.Operand.{Operand}
+use Rattle.listing.specs.declared.code.Operand.TheVariants as operands
 use Rattle.listing.specs.declared.lines.WrittenCondition.{WrittenCondition}
 use Rattle.listing.specs.declared.lines.WrittenCondition.TheVariants as wcondition
 use Rattle.listing.specs.declared.lines.WrittenInstruction.{WrittenInstruction}
 use Rattle.listing.specs.declared.lines.WrittenInstruction.TheVariants as winstruction
 use Rattle.listing.specs.declared.lines.WrittenOperand.{WrittenOperand}
 use Rattle.listing.specs.declared.lines.WrittenOperand.TheVariants as woperand
+use Rattle.listing.specs.declared.refusal.Reason.TheVariants.{NumberOutOfRange}
+use Rattle.listing.specs.declared.refusal.Refusal.{Refusal}
+use Rattle.listing.specs.Lines.{Refused}
 use Rattle.listing.specs.Limits.{between}
-use Rattle.listing.specs.Names.{value_of}
-use Rattle.listing.specs.Taking.{in_range, lift, number_read, operand_read, instruction_read, condition_read}
+use Rattle.listing.specs.Names.{condition_of, decimal, instruction_of, operand_of, value_of}
+use Rattle.listing.specs.Taking.{Valued, in_range, lift, number_read, operand_read, instruction_read, condition_read}
+use Rattle.listing.specs.Words.{is_digit}
 use Rattle.listing.specs.Values.{operand_fits, instruction_fits, condition_fits}
 
--- f is true of what is there
-abbrev Fit : {X : Type 0} → (X → Bool) → Option X → Type 0
-Fit f o = IfSome o (λ x. f x ≡ true)
-
-in_range_fits : (low high : ℕ) (o : Option ℕ) → Fit (λ n. leb n high) (in_range low high o)
-in_range_fits low high None = tt
-in_range_fits low high (Some n) = by (between low high n) (λ h. (and_parts (leb low n) (leb n high) h).1)
+-- a number that is read is the one that the digits write, and lies in its range
+value_is : (ds : List ℕ) → IfSome (value_of ds) (λ n. n ≡ decimal ds)
+value_is [] = tt
+value_is (d ∷ []) = by (is_digit d)
   where
-    by : (t : Bool) → (t ≡ true → leb n high ≡ true) → Fit (λ m. leb m high) (cond t (Some n) None)
-    by true h = h refl
-    by false h = tt
+    by : (t : Bool) → IfSome (cond t (Some (d - 48)) None) (λ n. n ≡ d - 48)
+    by true = refl
+    by false = tt
+value_is (t ∷ d ∷ []) = by (is_digit t && is_digit d)
+  where
+    by : (b : Bool) → IfSome (cond b (Some ((t - 48) * 10 + (d - 48))) None) (λ n. n ≡ (t - 48) * 10 + (d - 48))
+    by true = refl
+    by false = tt
+value_is (t ∷ d ∷ e ∷ ds) = tt
 
-number_fits : (low high : ℕ) (ds : Bor (List ℕ)) → Fit (λ n. leb n high) (number_read low high ds)
-number_fits low high ds = in_range_fits low high (value_of ds.now)
+abbrev Ranged : ℕ → ℕ → Bor (List ℕ) → ℕ → Type 0
+Ranged low high ds n = (n ≡ decimal ds.now) × (between low high n ≡ true)
 
-lift_fits : {X Y : Type 0} (f : X → Bool) (g : Y → Bool) (make : X → Y) (o : Option X) → ((x : X) → f x ≡ true → g (make x) ≡ true) → Fit f o → Fit g (lift (Some make) o)
-lift_fits f g make None keeps h = tt
-lift_fits f g make (Some x) keeps h = keeps x h
+in_range_is : (low high : ℕ) (P : ℕ → Type 0) (o : Option ℕ) → IfSome o P → IfSome (in_range low high o) (λ n. P n × (between low high n ≡ true))
+in_range_is low high P None h = tt
+in_range_is low high P (Some n) h = by (between low high n) refl
+  where
+    by : (t : Bool) → between low high n ≡ t → IfSome (cond t (Some n) None) (λ m. P m × (between low high m ≡ true))
+    by true e = (h, e)
+    by false e = tt
 
-lift_both_fits : {W X Y : Type 0} (e : W → Bool) (f : X → Bool) (g : Y → Bool) (make : W → X → Y) (n : Option W) (o : Option X)
-    → ((w : W) (x : X) → e w ≡ true → f x ≡ true → g (make w x) ≡ true) → Fit e n → Fit f o → Fit g (lift (lift (Some make) n) o)
-lift_both_fits e f g make None o keeps k h = tt
-lift_both_fits e f g make (Some w) None keeps k h = tt
-lift_both_fits e f g make (Some w) (Some x) keeps k h = keeps w x k h
+pub number_is : (low high : ℕ) (ds : Bor (List ℕ)) → IfSome (number_read low high ds) (Ranged low high ds)
+number_is low high ds = in_range_is low high (λ n. n ≡ decimal ds.now) (value_of ds.now) (value_is ds.now)
 
-operand_fit : (w : WrittenOperand) → Fit operand_fits (operand_read w)
-operand_fit (woperand.Digits ds) = lift_fits (λ n. leb n 15) operand_fits _ (number_read 0 15 ds) (λ x h. h) (number_fits 0 15 ds)
-operand_fit (woperand.Register r) = refl
+-- what is read of one part, and of two
+lift_one : {X Y : Type 0} (P : X → Type 0) (Q : Y → Type 0) (make : X → Y) (o : Option X) → ((x : X) → P x → Q (make x)) → IfSome o P → IfSome (lift (Some make) o) Q
+lift_one P Q make None keeps h = tt
+lift_one P Q make (Some x) keeps h = keeps x h
 
-instruction_fit : (w : WrittenInstruction) → Fit instruction_fits (instruction_read w)
-instruction_fit (winstruction.Store v e) = lift_fits operand_fits instruction_fits _ (operand_read e) (λ x h. h) (operand_fit e)
-instruction_fit (winstruction.Load r v) = refl
-instruction_fit (winstruction.Set r e) = lift_fits operand_fits instruction_fits _ (operand_read e) (λ x h. h) (operand_fit e)
-instruction_fit (winstruction.Add r e) = lift_fits operand_fits instruction_fits _ (operand_read e) (λ x h. h) (operand_fit e)
-instruction_fit (winstruction.Cas r v old new) =
-    lift_both_fits operand_fits operand_fits instruction_fits _ (operand_read old) (operand_read new) (λ w x k h. and_from _ _ k h) (operand_fit old) (operand_fit new)
-instruction_fit winstruction.Fence = refl
-instruction_fit (winstruction.Jump n) = lift_fits (λ m. leb m 16) instruction_fits _ (number_read 0 16 n) (λ x h. h) (number_fits 0 16 n)
-instruction_fit (winstruction.JumpIfEqual r e n) =
-    lift_both_fits operand_fits (λ m. leb m 16) instruction_fits _ (operand_read e) (number_read 0 16 n) (λ w x k h. and_from _ _ k h) (operand_fit e) (number_fits 0 16 n)
-instruction_fit (winstruction.JumpUnlessEqual r e n) =
-    lift_both_fits operand_fits (λ m. leb m 16) instruction_fits _ (operand_read e) (number_read 0 16 n) (λ w x k h. and_from _ _ k h) (operand_fit e) (number_fits 0 16 n)
+lift_two : {W X Y : Type 0} (N : W → Type 0) (P : X → Type 0) (Q : Y → Type 0) (make : W → X → Y) (n : Option W) (o : Option X)
+    → ((w : W) (x : X) → N w → P x → Q (make w x)) → IfSome n N → IfSome o P → IfSome (lift (lift (Some make) n) o) Q
+lift_two N P Q make None o keeps k h = tt
+lift_two N P Q make (Some w) None keeps k h = tt
+lift_two N P Q make (Some w) (Some x) keeps k h = keeps w x k h
 
-condition_fit : (w : WrittenCondition) → Fit condition_fits (condition_read w)
-condition_fit (wcondition.At t n) =
-    lift_both_fits (λ m. leb m 3) (λ m. leb m 16) condition_fits _ (number_read 0 3 t) (number_read 0 16 n) (λ w x k h. and_from _ _ k h) (number_fits 0 3 t) (number_fits 0 16 n)
-condition_fit (wcondition.Holds t r d) =
-    lift_both_fits (λ m. leb m 3) (λ m. leb m 15) condition_fits _ (number_read 0 3 t) (number_read 0 15 d) (λ w x k h. and_from _ _ k h) (number_fits 0 3 t) (number_fits 0 15 d)
-condition_fit (wcondition.Memory v d) = lift_fits (λ m. leb m 15) condition_fits _ (number_read 0 15 d) (λ x h. h) (number_fits 0 15 d)
+high_fits : (low high n : ℕ) → between low high n ≡ true → leb n high ≡ true
+high_fits low high n h = (and_parts (leb low n) (leb n high) h).1
 
-pub instruction_read_fits : (w : WrittenInstruction) (i : Instruction) → instruction_read w ≡ Some i → instruction_fits i ≡ true
-instruction_read_fits w i e = MatchOption-at_some (Unit {0}) (λ x. instruction_fits x ≡ true) i e (instruction_fit w)
+abbrev IsOperand : WrittenOperand → Operand → Type 0
+IsOperand w e = (e ≡ operand_of w) × (operand_fits e ≡ true)
+
+operand_is : (w : WrittenOperand) → IfSome (operand_read w) (IsOperand w)
+operand_is (woperand.Digits ds) =
+    lift_one (Ranged 0 15 ds) (IsOperand (woperand.Digits ds)) _ (number_read 0 15 ds) (λ n h. (ap operands.Value h.0, high_fits 0 15 n h.1)) (number_is 0 15 ds)
+operand_is (woperand.Register r) = (refl, refl)
+
+abbrev IsInstruction : WrittenInstruction → Instruction → Type 0
+IsInstruction w i = (i ≡ instruction_of w) × (instruction_fits i ≡ true)
+
+pub instruction_is : (w : WrittenInstruction) → IfSome (instruction_read w) (IsInstruction w)
+instruction_is (winstruction.Store v e) = lift_one (IsOperand e) (IsInstruction (winstruction.Store v e)) _ (operand_read e) (λ x h. (ap (instructions.Store v) h.0, h.1)) (operand_is e)
+instruction_is (winstruction.Load r v) = (refl, refl)
+instruction_is (winstruction.Set r e) = lift_one (IsOperand e) (IsInstruction (winstruction.Set r e)) _ (operand_read e) (λ x h. (ap (instructions.Set r) h.0, h.1)) (operand_is e)
+instruction_is (winstruction.Add r e) = lift_one (IsOperand e) (IsInstruction (winstruction.Add r e)) _ (operand_read e) (λ x h. (ap (instructions.Add r) h.0, h.1)) (operand_is e)
+instruction_is (winstruction.Cas r v old new) =
+    lift_two (IsOperand old) (IsOperand new) (IsInstruction (winstruction.Cas r v old new)) _ (operand_read old) (operand_read new)
+    (λ x y k h. (ap₂ (instructions.Cas r v) k.0 h.0, and_from _ _ k.1 h.1)) (operand_is old) (operand_is new)
+instruction_is winstruction.Fence = (refl, refl)
+instruction_is (winstruction.Jump n) =
+    lift_one (Ranged 0 16 n) (IsInstruction (winstruction.Jump n)) _ (number_read 0 16 n) (λ m h. (ap instructions.Jump h.0, high_fits 0 16 m h.1)) (number_is 0 16 n)
+instruction_is (winstruction.JumpIfEqual r e n) =
+    lift_two (IsOperand e) (Ranged 0 16 n) (IsInstruction (winstruction.JumpIfEqual r e n)) _ (operand_read e) (number_read 0 16 n)
+    (λ x m k h. (ap₂ (instructions.JumpIfEqual r) k.0 h.0, and_from _ _ k.1 (high_fits 0 16 m h.1))) (operand_is e) (number_is 0 16 n)
+instruction_is (winstruction.JumpUnlessEqual r e n) =
+    lift_two (IsOperand e) (Ranged 0 16 n) (IsInstruction (winstruction.JumpUnlessEqual r e n)) _ (operand_read e) (number_read 0 16 n)
+    (λ x m k h. (ap₂ (instructions.JumpUnlessEqual r) k.0 h.0, and_from _ _ k.1 (high_fits 0 16 m h.1))) (operand_is e) (number_is 0 16 n)
+
+abbrev IsCondition : WrittenCondition → Condition → Type 0
+IsCondition w c = (c ≡ condition_of w) × (condition_fits c ≡ true)
+
+pub condition_is : (w : WrittenCondition) → IfSome (condition_read w) (IsCondition w)
+condition_is (wcondition.At t n) =
+    lift_two (Ranged 0 3 t) (Ranged 0 16 n) (IsCondition (wcondition.At t n)) _ (number_read 0 3 t) (number_read 0 16 n)
+    (λ x y k h. (ap₂ conditions.At k.0 h.0, and_from _ _ (high_fits 0 3 x k.1) (high_fits 0 16 y h.1))) (number_is 0 3 t) (number_is 0 16 n)
+condition_is (wcondition.Holds t r d) =
+    lift_two (Ranged 0 3 t) (Ranged 0 15 d) (IsCondition (wcondition.Holds t r d)) _ (number_read 0 3 t) (number_read 0 15 d)
+    (λ x y k h. (ap₂ (λ m n. conditions.Holds m r n) k.0 h.0, and_from _ _ (high_fits 0 3 x k.1) (high_fits 0 15 y h.1))) (number_is 0 3 t) (number_is 0 15 d)
+condition_is (wcondition.Memory v d) =
+    lift_one (Ranged 0 15 d) (IsCondition (wcondition.Memory v d)) _ (number_read 0 15 d) (λ n h. (ap (conditions.Memory v) h.0, high_fits 0 15 n h.1)) (number_is 0 15 d)
+
+-- what is read, where something is
+module _ {X : Type 0} where
+  pub told_of : (P : X → Type 0) (o : Option X) (x : X) → o ≡ Some x → IfSome o P → P x
+  told_of P o x e h = MatchOption-at_some (Unit {0}) P x e h
 
 pub condition_read_fits : (w : WrittenCondition) (c : Condition) → condition_read w ≡ Some c → condition_fits c ≡ true
-condition_read_fits w c e = MatchOption-at_some (Unit {0}) (λ x. condition_fits x ≡ true) c e (condition_fit w)
+condition_read_fits w c e = (told_of (IsCondition w) (condition_read w) c e (condition_is w)).1
+
+pub instruction_valued : (w : WrittenInstruction) (n : ℕ) (r : Result Instruction Refusal) → Valued (instruction_read w) n r → MatchResult r (IsInstruction w) (Refused NumberOutOfRange n)
+instruction_valued w n (Ok i) v = told_of (IsInstruction w) (instruction_read w) i v (instruction_is w)
+instruction_valued w n (Err e) v = rw v.1 (refl, refl)

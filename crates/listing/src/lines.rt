@@ -289,100 +289,92 @@ fn written(digits: &[u8]) -> Option<u8>
     }
 }
 
+// The same, if it lies from `low` to `high`.
+fn in_range(low: u8, high: u8, digits: &[u8]) -> Option<u8>
+    ensures { result ≡ number_read low high digits.entry }
+{
+    let n = written(digits)?;
+    if low <= n && n <= high { Some(n) } else { None }
+}
+
+pub(crate) fn bound(digits: &[u8]) -> Option<u8>
+    ensures { result ≡ number_read 1 4 digits.entry }
+{
+    in_range(1, 4, digits)
+}
+
+fn value(digits: &[u8]) -> Option<u8>
+    ensures { result ≡ number_read 0 15 digits.entry }
+{
+    in_range(0, 15, digits)
+}
+
+fn target(digits: &[u8]) -> Option<u8>
+    ensures { result ≡ number_read 0 16 digits.entry }
+{
+    in_range(0, 16, digits)
+}
+
+fn thread(digits: &[u8]) -> Option<u8>
+    ensures { result ≡ number_read 0 3 digits.entry }
+{
+    in_range(0, 3, digits)
+}
+
+fn operand(written: WrittenOperand<'_>) -> Option<Operand>
+    ensures { result ≡ operand_read written.entry }
+{
+    match written {
+        WrittenOperand::Digits(digits) => Some(Operand::Value(value(digits)?)),
+        WrittenOperand::Register(register) => Some(Operand::Register(register)),
+    }
+}
+
+// What an instruction says, if its numbers lie in their ranges.
+fn instruction_in_range(written: WrittenInstruction<'_>) -> Option<Instruction>
+    ensures { result ≡ instruction_read written.entry }
+{
+    Some(match written {
+        WrittenInstruction::Store(v, e) => Instruction::Store(v, operand(e)?),
+        WrittenInstruction::Load(r, v) => Instruction::Load(r, v),
+        WrittenInstruction::Set(r, e) => Instruction::Set(r, operand(e)?),
+        WrittenInstruction::Add(r, e) => Instruction::Add(r, operand(e)?),
+        WrittenInstruction::Cas(r, v, old, new) => {
+            Instruction::Cas(r, v, operand(old)?, operand(new)?)
+        }
+        WrittenInstruction::Fence => Instruction::Fence,
+        WrittenInstruction::Jump(n) => Instruction::Jump(target(n)?),
+        WrittenInstruction::JumpIfEqual(r, e, n) => {
+            Instruction::JumpIfEqual(r, operand(e)?, target(n)?)
+        }
+        WrittenInstruction::JumpUnlessEqual(r, e, n) => {
+            Instruction::JumpUnlessEqual(r, operand(e)?, target(n)?)
+        }
+    })
+}
+
+fn condition_in_range(written: WrittenCondition<'_>) -> Option<Condition>
+    ensures { result ≡ condition_read written.entry }
+{
+    Some(match written {
+        WrittenCondition::At(t, n) => Condition::At(thread(t)?, target(n)?),
+        WrittenCondition::Holds(t, r, d) => Condition::Holds(thread(t)?, r, value(d)?),
+        WrittenCondition::Memory(v, d) => Condition::Memory(v, value(d)?),
+    })
+}
+
 pub fn number(low: u8, high: u8, digits: &[u8], line: u16) -> Result<u8, Refusal>
     ensures value { MatchResult result (λ n. (n ≡ decimal digits.now) × ((low ≤ n) × (n ≤ high))) (Refused NumberOutOfRange line) }
     ensures read { Valued (number_read low high digits.entry) line result }
 {
-    let Some(n) = written(digits) else {
-        return Err(Reason::NumberOutOfRange.at(line));
-    };
-    if low <= n && n <= high {
-        Ok(n)
-    } else {
-        Err(Reason::NumberOutOfRange.at(line))
-    }
-}
-
-pub(crate) fn bound(digits: &[u8], line: u16) -> Result<u8, Refusal>
-    ensures { Valued (number_read 1 4 digits.entry) line result }
-{
-    number(1, 4, digits, line)
-}
-
-fn value(digits: &[u8], line: u16) -> Result<u8, Refusal>
-    ensures value { MatchResult result (λ n. (n ≡ decimal digits.now) × (n ≤ 15)) (Refused NumberOutOfRange line) }
-    ensures read { Valued (number_read 0 15 digits.entry) line result }
-{
-    number(0, 15, digits, line)
-}
-
-fn target(digits: &[u8], line: u16) -> Result<u8, Refusal>
-    ensures value { MatchResult result (λ n. (n ≡ decimal digits.now) × (n ≤ 16)) (Refused NumberOutOfRange line) }
-    ensures read { Valued (number_read 0 16 digits.entry) line result }
-{
-    number(0, 16, digits, line)
-}
-
-fn thread(digits: &[u8], line: u16) -> Result<u8, Refusal>
-    ensures value { MatchResult result (λ n. (n ≡ decimal digits.now) × (n ≤ 3)) (Refused NumberOutOfRange line) }
-    ensures read { Valued (number_read 0 3 digits.entry) line result }
-{
-    number(0, 3, digits, line)
-}
-
-fn operand(written: WrittenOperand<'_>, line: u16) -> Result<Operand, Refusal>
-    ensures value { MatchResult result (λ e. (e ≡ operand_of written.entry) × (operand_fits e ≡ true)) (Refused NumberOutOfRange line) }
-    ensures read { Valued (operand_read written.entry) line result }
-{
-    match written {
-        WrittenOperand::Digits(digits) => Ok(Operand::Value(value(digits, line)?)),
-        WrittenOperand::Register(register) => Ok(Operand::Register(register)),
-    }
+    in_range(low, high, digits).ok_or(Reason::NumberOutOfRange.at(line))
 }
 
 pub fn instruction(written: WrittenInstruction<'_>, line: u16) -> Result<Instruction, Refusal>
     ensures value { MatchResult result (λ i. (i ≡ instruction_of written.entry) × (instruction_fits i ≡ true)) (Refused NumberOutOfRange line) }
     ensures read { Valued (instruction_read written.entry) line result }
 {
-    match written {
-        WrittenInstruction::Store(v, e) => Ok(Instruction::Store(v, operand(e, line)?)),
-        WrittenInstruction::Load(r, v) => Ok(Instruction::Load(r, v)),
-        WrittenInstruction::Set(r, e) => Ok(Instruction::Set(r, operand(e, line)?)),
-        WrittenInstruction::Add(r, e) => Ok(Instruction::Add(r, operand(e, line)?)),
-        WrittenInstruction::Cas(r, v, old, new) => Ok(Instruction::Cas(
-            r,
-            v,
-            operand(old, line)?,
-            operand(new, line)?,
-        )),
-        WrittenInstruction::Fence => Ok(Instruction::Fence),
-        WrittenInstruction::Jump(n) => Ok(Instruction::Jump(target(n, line)?)),
-        WrittenInstruction::JumpIfEqual(r, e, n) => Ok(Instruction::JumpIfEqual(
-            r,
-            operand(e, line)?,
-            target(n, line)?,
-        )),
-        WrittenInstruction::JumpUnlessEqual(r, e, n) => Ok(Instruction::JumpUnlessEqual(
-            r,
-            operand(e, line)?,
-            target(n, line)?,
-        )),
-    }
-}
-
-fn condition(written: WrittenCondition<'_>, line: u16) -> Result<Condition, Refusal>
-    ensures value { MatchResult result (λ c. (c ≡ condition_of written.entry) × (condition_fits c ≡ true)) (Refused NumberOutOfRange line) }
-    ensures read { Valued (condition_read written.entry) line result }
-{
-    match written {
-        WrittenCondition::At(t, n) => Ok(Condition::At(thread(t, line)?, target(n, line)?)),
-        WrittenCondition::Holds(t, r, d) => Ok(Condition::Holds(
-            thread(t, line)?,
-            r,
-            value(d, line)?,
-        )),
-        WrittenCondition::Memory(v, d) => Ok(Condition::Memory(v, value(d, line)?)),
-    }
+    instruction_in_range(written).ok_or(Reason::NumberOutOfRange.at(line))
 }
 
 // The conditions of a fault line. All its words are taken before a number or the count is judged.
@@ -394,10 +386,10 @@ pub fn fault_line(mut words: Words<'_>) -> Result<FaultLine, Refusal>
     let mut fault = FaultLine::new();
     let mut wrong = None;
     while let Some(written) = words.condition()? {
-        match condition(written, line) {
-            Err(_) => wrong = Some(Reason::NumberOutOfRange),
-            Ok(condition) if room_for_condition(fault.len()) => fault.push(condition),
-            Ok(_) => wrong = wrong.or(Some(Reason::TooMany)),
+        match condition_in_range(written) {
+            None => wrong = Some(Reason::NumberOutOfRange),
+            Some(condition) if room_for_condition(fault.len()) => fault.push(condition),
+            Some(_) => wrong = wrong.or(Some(Reason::TooMany)),
         }
     }
     if let Some(reason) = wrong {

@@ -84,7 +84,7 @@ impl Draft {
         if self.bound.is_some() {
             return Err(Reason::NoForm.at(line));
         }
-        self.bound = Some(bound(digits, line)?);
+        self.bound = Some(bound(digits).ok_or(Reason::NumberOutOfRange.at(line))?);
         Ok(())
     }
 

@@ -12,11 +12,11 @@ use Rattle.listing.proofs.lines.fault_line.Goals as goal
 pub loop-written-init : goal.loop-written-init
 loop-written-init c = (refl, rw c.new-fault.ensures refl, gather_start (left c.args.words) c.new-fault.result c.new-fault.ensures)
 
-pub loop-written-preserved-in-Err : goal.loop-written-preserved-in-Err
-loop-written-preserved-in-Err c =
+pub loop-written-preserved-in-None : goal.loop-written-preserved-in-None
+loop-written-preserved-in-None c =
     let took = subst (λ o. TookCondition c.loop-written.words c.condition.new.self (Ok o)) c.in-Some.is c.in_ok-written.ensures.says in
     let g = c.loop-written.invariant.2 in
-    (took.0 ∙ c.loop-written.invariant.0, c.loop-written.invariant.1, gather_out _ _ _ _ _ g (took.1.1 ∙ ap (λ o. more (said o) (all_conditions (left c.condition.new.self))) c.in-Err.ensures.read.0))
+    (took.0 ∙ c.loop-written.invariant.0, c.loop-written.invariant.1, gather_out _ _ _ _ _ g (took.1.1 ∙ ap (λ o. more (said o) (all_conditions (left c.condition.new.self))) (sym c.in-None.ensures)))
 
 pub loop-written-preserved-then-room_for_condition : goal.loop-written-preserved-then-room_for_condition
 loop-written-preserved-then-room_for_condition c =
@@ -24,8 +24,8 @@ loop-written-preserved-then-room_for_condition c =
     let g = c.loop-written.invariant.2 in
     let few = ltb-true c.len.result 6 (sym c.if-room_for_condition.ensures) in (
       took.0 ∙ c.loop-written.invariant.0,
-      rw c.push.ensures (all_push condition_fits c.loop-written.fault c.in-Ok.condition c.loop-written.invariant.1 (condition_read_fits c.in-Some.written c.in-Ok.condition c.in-Ok.ensures.read)),
-      gather_kept _ _ _ _ _ g c.in-Ok.condition c.push.new.self (took.1.1 ∙ ap (λ o. more (said o) (all_conditions (left c.condition.new.self))) c.in-Ok.ensures.read) (omega (arith, c.len.ensures.value)) c.push.ensures,
+      rw c.push.ensures (all_push condition_fits c.loop-written.fault c.in-Some-condition_in_range.condition c.loop-written.invariant.1 (condition_read_fits c.in-Some.written c.in-Some-condition_in_range.condition (sym c.in-Some-condition_in_range.ensures))),
+      gather_kept _ _ _ _ _ g c.in-Some-condition_in_range.condition c.push.new.self (took.1.1 ∙ ap (λ o. more (said o) (all_conditions (left c.condition.new.self))) (sym c.in-Some-condition_in_range.ensures)) (omega (arith, c.len.ensures.value)) c.push.ensures,
     )
 
 pub loop-written-preserved : goal.loop-written-preserved
@@ -36,7 +36,7 @@ loop-written-preserved c =
       took.0 ∙ c.loop-written.invariant.0,
       c.loop-written.invariant.1,
       rw c.or-wrong.ensures
-          (gather_past _ _ _ _ _ g c.in-Ok-2.field-0 (took.1.1 ∙ ap (λ o. more (said o) (all_conditions (left c.condition.new.self))) c.in-Ok-2.ensures.read) (omega (arith, c.len.ensures.value))),
+          (gather_past _ _ _ _ _ g c.in-Some-2.field-0 (took.1.1 ∙ ap (λ o. more (said o) (all_conditions (left c.condition.new.self))) (sym c.in-Some-2.ensures)) (omega (arith, c.len.ensures.value))),
     )
 
 pub returns-in-Some-wrong-clause-value : goal.returns-in-Some-wrong-clause-value
