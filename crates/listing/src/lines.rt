@@ -1,8 +1,10 @@
 // The words of a line, taken one by one by the form that its first word begins, and the values that its numbers have.
-ghost use Rattle.std.specs.Prelude.{◌≡◌, ℕ, ◌+◌, ◌<◌, ◌≤◌, true, [], ◌∷◌, ◌++◌, IfOk, IfErr, IfSome, Some, MatchResult};
+ghost use Rattle.std.specs.Prelude.{List, Option, None, ◌≡◌, ℕ, ◌+◌, ◌<◌, ◌≤◌, true, [], ◌∷◌, ◌++◌, IfOk, IfErr, IfSome, Some, MatchResult};
 ghost use Rattle.listing.specs.declared.refusal.Reason.TheVariants.{NoForm, NumberOutOfRange};
-ghost use Rattle.listing.specs.Forms.{fault, no_form, number as number_says, operand as operand_says, register as register_says, variable as variable_says};
-ghost use Rattle.listing.specs.Limits.{fault_fits};
+ghost use Rattle.listing.specs.Forms.{called, fault, no_form, number as number_says, operand as operand_says, register as register_says, variable as variable_says};
+ghost use Rattle.listing.specs.Limits.{all, fault_fits};
+ghost use Rattle.listing.specs.Words.{is_digit};
+ghost use Rattle.std.specs.Fn.{FnReturnsAt};
 ghost use Rattle.listing.specs.Lines.{Declined, Refused, Took as TookNamed, TookSome, stands_on};
 ghost use Rattle.listing.specs.Names.{decimal, value_of, variable_of, register_of, NamesVariable, NamesRegister, NamesNumber, NamesOperand, operand_of, instruction_of, condition_of};
 ghost use Rattle.listing.specs.Reading.{refusal, some};
@@ -111,30 +113,30 @@ fn register_named(word: &[u8]) -> Option<Register>
 }
 
 impl<'a> Words<'a> {
-    fn variable(&mut self) -> Result<Variable, Refusal>
-        ensures took { TookNamed NamesVariable self.old self.new result }
-        ensures says { Took variable_says Some self.old self.new result }
+    // What the next word names.
+    fn named<T: Drop, F: Fn(&[u8]) -> Option<T>>(&mut self, names: F) -> Result<T, Refusal>
+        requires { F.IsAlwaysCallable names }
+        ensures { (name : List ℕ → Option T) → ((word : List ℕ) (o : Option T) → FnReturnsAt F.Fn names word o → o ≡ name word) → ((word : List ℕ) → all is_digit word ≡ true → name word ≡ None) → Took (λ word. called (name word)) Some self.old self.new result }
     {
         let Some(Token::Word { bytes, .. }) = self.next() else {
             return Err(Reason::NoForm.at(self.line));
         };
-        let Some(variable) = variable_named(bytes) else {
+        let Some(named) = names(bytes) else {
             return Err(Reason::NoForm.at(self.line));
         };
-        Ok(variable)
+        Ok(named)
+    }
+
+    fn variable(&mut self) -> Result<Variable, Refusal>
+        ensures { Took variable_says Some self.old self.new result }
+    {
+        self.named(variable_named)
     }
 
     fn register(&mut self) -> Result<Register, Refusal>
-        ensures took { TookNamed NamesRegister self.old self.new result }
-        ensures says { Took register_says Some self.old self.new result }
+        ensures { Took register_says Some self.old self.new result }
     {
-        let Some(Token::Word { bytes, .. }) = self.next() else {
-            return Err(Reason::NoForm.at(self.line));
-        };
-        let Some(register) = register_named(bytes) else {
-            return Err(Reason::NoForm.at(self.line));
-        };
-        Ok(register)
+        self.named(register_named)
     }
 
     pub(crate) fn digits(&mut self) -> Result<&'a [u8], Refusal>

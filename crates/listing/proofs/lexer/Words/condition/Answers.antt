@@ -71,7 +71,7 @@ returns-in_err-register-in-reg-clause-says c =
     let t = c.in-Some.ensures in
     let word = subst (λ t. Comes t (left c.args.self.now) (left c.next.new.self) c.args.self.now.line) c.in-Word.is t.comes in
     let h = c.in_ok-digits-in-reg.ensures.says 0 3 in
-    let b = c.in_err-register-in-reg.ensures.says in
+    let b = c.in_err-register-in-reg.ensures in
     let vs = left c.next.new.self in
     rw (p.1, p.2) (b.0 ∙ ap (refusal NoForm) (h.0 ∙ t.line), no_reg c.in-Word.bytes.now vs word.0 (omega (arith, ltb-true, ltb-false)) (three_none_2 condition.Holds thread register value vs h.1.1.0 b.1))
 
@@ -81,7 +81,7 @@ returns-in_err-digits-in-reg-2-clause-says c =
     let t = c.in-Some.ensures in
     let word = subst (λ t. Comes t (left c.args.self.now) (left c.next.new.self) c.args.self.now.line) c.in-Word.is t.comes in
     let h = c.in_ok-digits-in-reg.ensures.says 0 3 in
-    let i = c.in_ok-register-in-reg.ensures.says in
+    let i = c.in_ok-register-in-reg.ensures in
     let b = c.in_err-digits-in-reg-2.ensures.says 0 15 in
     let vs = left c.next.new.self in
     rw (p.1, p.2) (b.0 ∙ ap (refusal NoForm) (i.0 ∙ h.0 ∙ t.line), no_reg c.in-Word.bytes.now vs word.0 (omega (arith, ltb-true, ltb-false)) (three_none_3 condition.Holds thread register value vs h.1.1.0 i.1.1.0 b.1))
@@ -91,7 +91,7 @@ returns-in_ok-digits-in-reg-2-clause-says c =
     let t = c.in-Some.ensures in
     let word = subst (λ t. Comes t (left c.args.self.now) (left c.next.new.self) c.args.self.now.line) c.in-Word.is t.comes in
     let h = c.in_ok-digits-in-reg.ensures.says 0 3 in
-    let i = c.in_ok-register-in-reg.ensures.says in
+    let i = c.in_ok-register-in-reg.ensures in
     let j = c.in_ok-digits-in-reg-2.ensures.says 0 15 in
     let vs = left c.next.new.self in (
       j.0 ∙ i.0 ∙ h.0 ∙ t.line,
@@ -107,7 +107,7 @@ returns-in_err-variable-in-mem-clause-says c =
     let p = err_from_is_err_and c.from_residual-in_err-variable-in-mem.result c.from_residual-in_err-variable-in-mem.ensures.1 in
     let t = c.in-Some.ensures in
     let word = subst (λ t. Comes t (left c.args.self.now) (left c.next.new.self) c.args.self.now.line) c.in-Word.is t.comes in
-    let b = c.in_err-variable-in-mem.ensures.says in
+    let b = c.in_err-variable-in-mem.ensures in
     let vs = left c.next.new.self in
     rw (p.1, p.2) (b.0 ∙ ap (refusal NoForm) t.line, no_mem c.in-Word.bytes.now vs word.0 (omega (arith, ltb-true, ltb-false)) (two_none_1 condition.Memory variable value vs b.1))
 
@@ -116,7 +116,7 @@ returns-in_err-digits-in-mem-clause-says c =
     let p = err_from_is_err_and c.from_residual-in_err-digits-in-mem.result c.from_residual-in_err-digits-in-mem.ensures.1 in
     let t = c.in-Some.ensures in
     let word = subst (λ t. Comes t (left c.args.self.now) (left c.next.new.self) c.args.self.now.line) c.in-Word.is t.comes in
-    let h = c.in_ok-variable-in-mem.ensures.says in
+    let h = c.in_ok-variable-in-mem.ensures in
     let b = c.in_err-digits-in-mem.ensures.says 0 15 in
     let vs = left c.next.new.self in
     rw (p.1, p.2) (b.0 ∙ ap (refusal NoForm) (h.0 ∙ t.line), no_mem c.in-Word.bytes.now vs word.0 (omega (arith, ltb-true, ltb-false)) (two_none_2 condition.Memory variable value vs h.1.1.0 b.1))
@@ -125,7 +125,7 @@ pub returns-in_ok-digits-in-mem-clause-says : goal.returns-in_ok-digits-in-mem-c
 returns-in_ok-digits-in-mem-clause-says c =
     let t = c.in-Some.ensures in
     let word = subst (λ t. Comes t (left c.args.self.now) (left c.next.new.self) c.args.self.now.line) c.in-Word.is t.comes in
-    let h = c.in_ok-variable-in-mem.ensures.says in
+    let h = c.in_ok-variable-in-mem.ensures in
     let i = c.in_ok-digits-in-mem.ensures.says 0 15 in
     let vs = left c.next.new.self in (
       i.0 ∙ h.0 ∙ t.line,
