@@ -87,7 +87,8 @@ impl<T: Filler, const N: usize> Few<T, N> {
     }
 
     pub fn is_full(&self) -> bool
-        ensures { result ≡ (length self.now == N) }
+        ensures value { result ≡ (length self.now == N) }
+        ensures within { length self.now ≤ N }
     {
         usize::from(self.len) == N
     }

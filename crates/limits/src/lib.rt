@@ -1,47 +1,33 @@
 // How much of each there may be in a listing.
 #![tactic(auto)]
 
-ghost use Rattle.std.specs.Prelude.{◌≡◌, ◌&&◌, nat_le, nat_lt};
+ghost use Rattle.std.specs.Prelude.{◌≡◌, nat_le};
+ghost use Rattle.limits.specs.declared.TheConstants.{MOST_BYTES, MOST_THREADS, MOST_IN_THREAD, MOST_INSTRUCTIONS, MOST_FAULTS, MOST_CONDITIONS};
 
 pub const MOST_BYTES: usize = 4096;
 
-const MOST_THREADS: usize = 4;
+pub const MOST_THREADS: usize = 4;
 
-const MOST_IN_THREAD: usize = 16;
+pub const MOST_IN_THREAD: usize = 16;
 
-const MOST_INSTRUCTIONS: usize = 32;
+pub const MOST_INSTRUCTIONS: usize = 32;
 
-const MOST_FAULTS: usize = 8;
+pub const MOST_FAULTS: usize = 8;
 
-const MOST_CONDITIONS: usize = 6;
+pub const MOST_CONDITIONS: usize = 6;
+
+// Does nothing: its contract says the numbers.
+pub fn numbers_stand()
+    ensures bytes { MOST_BYTES ≡ 4096 }
+    ensures threads { MOST_THREADS ≡ 4 }
+    ensures in_thread { MOST_IN_THREAD ≡ 16 }
+    ensures instructions { MOST_INSTRUCTIONS ≡ 32 }
+    ensures faults { MOST_FAULTS ≡ 8 }
+    ensures conditions { MOST_CONDITIONS ≡ 6 }
+{}
 
 pub fn short_enough(bytes: usize) -> bool
     ensures { result ≡ nat_le bytes 4096 }
 {
     bytes <= MOST_BYTES
-}
-
-pub fn room_for_thread(threads: usize) -> bool
-    ensures { result ≡ nat_lt threads 4 }
-{
-    threads < MOST_THREADS
-}
-
-// By the instructions of the thread, and by those of all threads.
-pub fn room_for_instruction(length: usize, together: usize) -> bool
-    ensures { result ≡ (nat_lt length 16 && nat_lt together 32) }
-{
-    length < MOST_IN_THREAD && together < MOST_INSTRUCTIONS
-}
-
-pub fn room_for_fault(faults: usize) -> bool
-    ensures { result ≡ nat_lt faults 8 }
-{
-    faults < MOST_FAULTS
-}
-
-pub fn room_for_condition(conditions: usize) -> bool
-    ensures { result ≡ nat_lt conditions 6 }
-{
-    conditions < MOST_CONDITIONS
 }

@@ -4,6 +4,7 @@ ghost use Rattle.listing.specs.Code.{index, slot};
 ghost use Rattle.listing.specs.Limits.{together};
 
 use few::{Few, Filler};
+use limits::{MOST_CONDITIONS, MOST_IN_THREAD};
 
 // A shared word.
 #[derive(Clone, Copy, PartialEq, Eq)]
@@ -93,10 +94,10 @@ impl Filler for Condition {
 }
 
 // The instructions of one thread.
-pub type ThreadCode = Few<Instruction, 16>;
+pub type ThreadCode = Few<Instruction, MOST_IN_THREAD>;
 
 // The conditions of one fault line.
-pub type FaultLine = Few<Condition, 6>;
+pub type FaultLine = Few<Condition, MOST_CONDITIONS>;
 
 // How many instructions some threads have.
 pub(crate) fn together(threads: &[ThreadCode]) -> usize

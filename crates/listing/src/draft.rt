@@ -7,16 +7,17 @@ pub mod finish;
 
 use crate::code::{FaultLine, ThreadCode};
 use few::Few;
+use limits::{MOST_FAULTS, MOST_IN_THREAD, MOST_THREADS};
 
 #[derive(Clone, Copy)]
 pub struct Draft {
     pub(crate) bound: Option<u8>,
-    pub(crate) threads: Few<ThreadCode, 4>,
-    pub(crate) faults: Few<FaultLine, 8>,
+    pub(crate) threads: Few<ThreadCode, MOST_THREADS>,
+    pub(crate) faults: Few<FaultLine, MOST_FAULTS>,
     // A program keeps no lines, so they stand beside its parts, which it is handed whole.
-    pub(crate) thread_lines: Few<u16, 4>,
-    pub(crate) instruction_lines: Few<Few<u16, 16>, 4>,
-    pub(crate) fault_lines: Few<u16, 8>,
+    pub(crate) thread_lines: Few<u16, MOST_THREADS>,
+    pub(crate) instruction_lines: Few<Few<u16, MOST_IN_THREAD>, MOST_THREADS>,
+    pub(crate) fault_lines: Few<u16, MOST_FAULTS>,
     ghost bounded: { bound_fits bound ≡ true },
     ghost few_threads: { length threads ≤ 4 },
     ghost few_instructions: { together threads ≤ 32 },

@@ -14,7 +14,6 @@ ghost use Rattle.listing.specs.Values.{operand_fits, instruction_fits, condition
 use crate::code::{Condition, FaultLine, Instruction, Operand, Register, Variable};
 use crate::lexer::{Token, Words};
 use crate::refusal::{Reason, Refusal};
-use limits::room_for_condition;
 
 #[derive(Clone, Copy)]
 pub enum WrittenOperand<'a> {
@@ -390,7 +389,7 @@ pub fn fault_line(mut words: Words<'_>) -> Result<FaultLine, Refusal>
     while let Some(written) = words.condition()? {
         match condition_in_range(written) {
             None => wrong = Some(Reason::NumberOutOfRange),
-            Some(condition) if room_for_condition(fault.len()) => fault.push(condition),
+            Some(condition) if !fault.is_full() => fault.push(condition),
             Some(_) => wrong = wrong.or(Some(Reason::TooMany)),
         }
     }

@@ -14,7 +14,7 @@ use crate::lexer::Words;
 use crate::lines::{Line, WrittenInstruction, bound, fault_line, instruction};
 use crate::refusal::{Reason, Refusal};
 use few::Few;
-use limits::{room_for_fault, room_for_instruction, room_for_thread};
+use limits::MOST_INSTRUCTIONS;
 
 impl Draft {
     pub fn new() -> Draft
@@ -35,7 +35,7 @@ impl Draft {
         ensures declined { IfErr result (Declined line) }
         ensures adds { Adds (held (progress_of self.old) line (means thread_line)) self.new result }
     {
-        if !room_for_thread(self.threads.len()) {
+        if self.threads.is_full() {
             return Err(Reason::TooMany.at(line));
         }
         self.threads.push(ThreadCode::new());
@@ -53,7 +53,7 @@ impl Draft {
     {
         let last = self.threads.len() - 1;
         let mut code = self.threads.as_slice()[last];
-        if !room_for_instruction(code.len(), together(self.threads.as_slice())) {
+        if code.is_full() || together(self.threads.as_slice()) >= MOST_INSTRUCTIONS {
             return Err(Reason::TooMany.at(line));
         }
         code.push(instruction);
@@ -69,7 +69,7 @@ impl Draft {
         ensures declined { IfErr result (Declined line) }
         ensures adds { Adds (held (progress_of self.old) line (means (fault_says fault))) self.new result }
     {
-        if !room_for_fault(self.faults.len()) {
+        if self.faults.is_full() {
             return Err(Reason::TooMany.at(line));
         }
         self.faults.push(fault);

@@ -18,25 +18,25 @@ loop-written-preserved-in-None c =
     let g = c.loop-written.invariant.2 in
     (took.0 ∙ c.loop-written.invariant.0, c.loop-written.invariant.1, gather_out _ _ _ _ _ g (took.1.1 ∙ ap (λ o. more (said o) (all_conditions (left c.condition.new.self))) (sym c.in-None.ensures)))
 
-pub loop-written-preserved-then-room_for_condition : goal.loop-written-preserved-then-room_for_condition
-loop-written-preserved-then-room_for_condition c =
+pub loop-written-preserved-then-not-is_full : goal.loop-written-preserved-then-not-is_full
+loop-written-preserved-then-not-is_full c =
     let took = subst (λ o. TookCondition c.loop-written.words c.condition.new.self (Ok o)) c.in-Some.is c.in_ok-written.ensures.says in
     let g = c.loop-written.invariant.2 in
-    let few = ltb-true c.len.result 6 (sym c.if-room_for_condition.ensures) in (
+    let short = eqb-false (length c.loop-written.fault) 6 (sym c.if-not-is_full.ensures.value) in (
       took.0 ∙ c.loop-written.invariant.0,
       rw c.push.ensures (all_push condition_fits c.loop-written.fault c.in-Some-condition_in_range.condition c.loop-written.invariant.1 (condition_read_fits c.in-Some.written c.in-Some-condition_in_range.condition (sym c.in-Some-condition_in_range.ensures))),
-      gather_kept _ _ _ _ _ g c.in-Some-condition_in_range.condition c.push.new.self (took.1.1 ∙ ap (λ o. more (said o) (all_conditions (left c.condition.new.self))) (sym c.in-Some-condition_in_range.ensures)) (omega (arith, c.len.ensures.value)) c.push.ensures,
+      gather_kept _ _ _ _ _ g c.in-Some-condition_in_range.condition c.push.new.self (took.1.1 ∙ ap (λ o. more (said o) (all_conditions (left c.condition.new.self))) (sym c.in-Some-condition_in_range.ensures)) (omega (arith, short, c.if-not-is_full.ensures.within)) c.push.ensures,
     )
 
 pub loop-written-preserved : goal.loop-written-preserved
 loop-written-preserved c =
     let took = subst (λ o. TookCondition c.loop-written.words c.condition.new.self (Ok o)) c.in-Some.is c.in_ok-written.ensures.says in
     let g = c.loop-written.invariant.2 in
-    let many = ltb-false c.len.result 6 (sym c.if-room_for_condition.ensures) in (
+    let many = eqb-true (length c.loop-written.fault) 6 (sym c.if-not-is_full.ensures.value) in (
       took.0 ∙ c.loop-written.invariant.0,
       c.loop-written.invariant.1,
       rw c.or-wrong.ensures
-          (gather_past _ _ _ _ _ g c.in-Some-2.field-0 (took.1.1 ∙ ap (λ o. more (said o) (all_conditions (left c.condition.new.self))) (sym c.in-Some-2.ensures)) (omega (arith, c.len.ensures.value))),
+          (gather_past _ _ _ _ _ g c.in-Some-2.field-0 (took.1.1 ∙ ap (λ o. more (said o) (all_conditions (left c.condition.new.self))) (sym c.in-Some-2.ensures)) (omega (arith, many))),
     )
 
 pub returns-in-Some-wrong-clause-value : goal.returns-in-Some-wrong-clause-value
