@@ -1,5 +1,5 @@
 use Rattle.std.proofs.Common.{◌≡◌, [], length, Ok, Err, sym, refl, ap, ◌∙◌, subst, arith}
-use Rattle.std.proofs.lemmas.Bool.{and_from, eqb-true, eqb-false, ltb-true, ltb-false}
+use Rattle.std.proofs.lemmas.Bool.{and_from, eqb-true, eqb-false}
 use Rattle.listing.specs.Forms.{all_conditions, more}
 use Rattle.listing.specs.Taking.{left, said, fitted, TookCondition}
 use Rattle.listing.specs.Values.{condition_fits}
