@@ -1,7 +1,7 @@
 // A list of few values in fixed memory, which is copied as a number is.
 #![tactic(auto)]
 
-ghost use Rattle.std.specs.Prelude.{◌≡◌, ◌+◌, ◌-◌, ◌<◌, ◌≤◌, ◌==◌, [], ◌∷◌, ◌++◌, length, take, drop, slice_get};
+ghost use Rattle.std.specs.Prelude.{◌≡◌, ◌+◌, ◌-◌, ◌<◌, ◌≤◌, ◌==◌, [], ◌∷◌, ◌++◌, length, take, drop, slice_get, Decides};
 
 use std::alloc::AllocError;
 use std::marker::Model;
@@ -131,3 +131,9 @@ impl<T: Filler, const N: usize> Few<T, N> {
         self.items[usize::from(self.len - 1)] = item;
     }
 }
+
+// Two lists compare as equal exactly when they are equal, where their values do.
+pub fn equality_is_exact<T: Filler + PartialEq, const N: usize>()
+    requires { (a : T) (b : T) → Decides (T.eq a b) (a ≡ b) }
+    ensures { (xs : _) (ys : _) → Decides (⟦<Few<T, N> as PartialEq>⟧.eq xs ys) (xs ≡ ys) }
+{}
