@@ -1,4 +1,3 @@
-pub mod Judged
 pub mod Mapped
 pub mod Masks
 pub mod Newest
