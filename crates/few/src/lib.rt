@@ -45,6 +45,7 @@ impl<T: Filler, const N: usize> Model for Few<T, N> {
     ghost inverse_ok = { λ f h. ap₂ (λ n xs. record { len = n; items = xs }) (used_length f.len N f.items h.0 h.1) (whole_again f.len N f.items T.filler h.0 h.1 h.2) };
 }
 
+// By hand: where it is derived, it stays open that what the values' own `clone` gives is equal to them.
 impl<T: Filler, const N: usize> Clone for Few<T, N> {
     ghost is_clone = { λ old new. new ≡ old };
 
