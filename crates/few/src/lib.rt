@@ -1,7 +1,7 @@
 // A list of few values in fixed memory, which is copied as a number is.
 #![tactic(auto)]
 
-ghost use Rattle.std.specs.Prelude.{◌≡◌, ◌+◌, ◌-◌, ◌<◌, ◌≤◌, ◌==◌, [], ◌∷◌, ◌++◌, length, take, drop, slice_get};
+ghost use Rattle.std.specs.Prelude.{◌≡◌, ◌+◌, ◌-◌, ◌<◌, ◌≤◌, ◌==◌, [], ◌∷◌, ◌++◌, length, take, drop, slice_get, Decides};
 
 use std::alloc::AllocError;
 use std::marker::Model;
@@ -45,6 +45,7 @@ impl<T: Filler, const N: usize> Model for Few<T, N> {
     ghost inverse_ok = { λ f h. ap₂ (λ n xs. record { len = n; items = xs }) (used_length f.len N f.items h.0 h.1) (whole_again f.len N f.items T.filler h.0 h.1 h.2) };
 }
 
+// By hand: where it is derived, it stays open that what the values' own `clone` gives is equal to them.
 impl<T: Filler, const N: usize> Clone for Few<T, N> {
     ghost is_clone = { λ old new. new ≡ old };
 
@@ -132,3 +133,9 @@ impl<T: Filler, const N: usize> Few<T, N> {
         self.items[usize::from(self.len - 1)] = item;
     }
 }
+
+// Two lists compare as equal exactly when they are equal, where their values do.
+pub fn equality_is_exact<T: Filler + PartialEq, const N: usize>()
+    requires { (a : T) (b : T) → Decides (T.eq a b) (a ≡ b) }
+    ensures { (xs : _) (ys : _) → Decides (⟦<Few<T, N> as PartialEq>⟧.eq xs ys) (xs ≡ ys) }
+{}

@@ -1,4 +1,4 @@
-pub mod Judged
+pub mod Mapped
 pub mod Masks
 pub mod Newest
-pub mod Shifts
+pub mod Sameness

@@ -5,4 +5,3 @@ pub mod Pictures
 pub mod Places
 pub mod Queues
 pub mod Unbuffered
-pub mod Sameness

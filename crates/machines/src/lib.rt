@@ -5,6 +5,7 @@ pub mod buffered;
 pub mod fenced;
 pub mod instruction;
 pub mod judge;
+pub mod laws;
 pub mod machine;
 pub mod picture;
 pub mod placement;

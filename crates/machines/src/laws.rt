@@ -1,0 +1,17 @@
+// What holds of the values of every machine.
+ghost use Rattle.std.specs.Prelude.{◌≡◌, Decides};
+
+use crate::buffered::{Standing, Thread};
+use crate::picture::{Picture, Shown};
+use crate::queue::{Queue, Write};
+
+// Two of them compare as equal exactly when they are equal.
+#[tactic(auto, using(crate::proofs::Sameness::queue_decides, crate::proofs::Sameness::picture_decides, crate::proofs::Sameness::thread_decides, crate::proofs::Sameness::standing_decides))]
+pub fn equality_is_exact()
+    ensures writes { (a : _) (b : _) → Decides (⟦<Write as PartialEq>⟧.eq a b) (a ≡ b) }
+    ensures queues { (a : _) (b : _) → Decides (⟦<Queue as PartialEq>⟧.eq a b) (a ≡ b) }
+    ensures shown { (a : _) (b : _) → Decides (⟦<Shown as PartialEq>⟧.eq a b) (a ≡ b) }
+    ensures pictures { (a : _) (b : _) → Decides (⟦<Picture as PartialEq>⟧.eq a b) (a ≡ b) }
+    ensures threads { (a : _) (b : _) → Decides (⟦<Thread as PartialEq>⟧.eq a b) (a ≡ b) }
+    ensures standings { (a : _) (b : _) → Decides (⟦<Standing as PartialEq>⟧.eq a b) (a ≡ b) }
+{}
