@@ -6,6 +6,7 @@ ghost use Rattle.machines.specs.Places.{has, adding, removing, first_places, fro
 
 use few::Filler;
 
+// A rule of the project: a place stays a `u8` below 32 by clauses, since a type of its own would ask more of callers.
 #[derive(Clone, Copy, PartialEq, Eq, Default)]
 pub struct Placement {
     pub mask: u32,
