@@ -64,7 +64,7 @@ impl<K: Kind + Copy> Job<K> {
     }
 
     // Keeps and answers the fewest open places that keep every fault out.
-    // Rows and notes stay two slices, as in a struct the clause `memory` would name them by their place at the exit and be no plainer.
+    // Of rows and notes in one struct the clause `memory` would speak by places at the exit, and be no plainer.
     pub fn solve(
         &mut self,
         rows: &mut [K::Standing],

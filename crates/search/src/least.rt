@@ -83,7 +83,7 @@ impl<M: Machine + Copy> Search<'_, '_, M> {
 }
 
 // The fewest open places that keep every fault out; of equal counts, the set that holds the lowest place in which the
-// two differ.
+// two differ. Rows and notes are no struct: where one's slices are lent on to the table, the check makes no proof.
 pub fn least<M: Machine + Copy>(
     machine: &M,
     program: &Program,
