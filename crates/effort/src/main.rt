@@ -31,6 +31,7 @@ fn explorations(program: &Program, rows: &mut [Standing], notes: &mut [u32]) -> 
     starts.get()
 }
 
+// A rule of the project: only programs allocate, so what is read and lent here stands in the console as well.
 fn main(rt: HostRuntime) -> io::Result<()> {
     let mut text = Vec::new(rt.alloc());
     rt.stdin().take(4097).read_to_end(&mut text)?;

@@ -103,7 +103,7 @@ impl<K: Kind + Copy> Job<K> {
         ensures after { out.new ≡ buffer self.now out.old }
         ensures limit { IfOk result (λ n. n ≤ 512) }
     {
-        let loaded = self.loaded.ok_or(Reason::NoProgram.refusal())?;
+        let loaded = self.loaded.as_ref().ok_or(Reason::NoProgram.refusal())?;
         let places = loaded.kept.ok_or(Reason::NoPlacement.refusal())?;
         report_lines(&loaded.program, places, out)
     }

@@ -45,6 +45,7 @@ pub fn report_lines(program: &Program, places: Placement, out: &mut [u8]) -> Res
     put(report_text(program, places), out)
 }
 
+// Each text is appended by a call that cannot fail: by its contract `write!` may fail even where there is room.
 fn refusal_text(refused: Refusal) -> ArrayString<512>
     ensures { result.bytes ≡ refusal (number_of refused.reason) refused.line }
 {
