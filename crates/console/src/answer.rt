@@ -7,13 +7,6 @@ use job::lines::refusal_line;
 use listing::refusal::Refusal;
 use machines::buffered::{Buffered, Standing};
 
-// How many bytes were written, and whether they are a report.
-#[derive(Clone, Copy)]
-pub struct Printed {
-    pub length: usize,
-    pub granted: bool,
-}
-
 // Reads, solves and reports.
 fn report(
     text: &[u8],
@@ -30,25 +23,19 @@ fn report(
     job.report(out)
 }
 
-// The report, or the line of the first refusal.
-pub fn answer(text: &[u8], rows: &mut [Standing], notes: &mut [u32], out: &mut [u8; 512]) -> Printed
-    ensures limit { result.length ≤ 512 }
-    ensures bytes { PrintedRight out.old out.new result.length result.granted }
+// The length of the report, or else of the line of the first refusal.
+pub fn answer(
+    text: &[u8],
+    rows: &mut [Standing],
+    notes: &mut [u32],
+    out: &mut [u8; 512],
+) -> Result<usize, usize>
+    ensures limit { MatchResult result (λ n. n ≤ 512) (λ n. n ≤ 512) }
+    ensures bytes { PrintedRight out.old out.new result }
 {
+    // By `map_err` it is left open what the closure wrote into the buffer.
     match report(text, rows, notes, out) {
-        Ok(length) => Printed {
-            length,
-            granted: true,
-        },
-        Err(refusal) => match refusal_line(refusal, out) {
-            Ok(length) => Printed {
-                length,
-                granted: false,
-            },
-            Err(_) => Printed {
-                length: 0,
-                granted: false,
-            },
-        },
+        Ok(length) => Ok(length),
+        Err(refusal) => Err(refusal_line(refusal, out).unwrap()),
     }
 }

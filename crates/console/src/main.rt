@@ -12,27 +12,25 @@ use std::process::ExitCode;
 // One byte more than a listing may have, so that a longer one is refused and not read to its end.
 const MOST_READ: u64 = 4097;
 
-// Prints the answer; false where it is a refusal.
-fn print_answer(rt: &HostRuntime) -> io::Result<bool> {
+// Prints the answer, and says with which status the process ends.
+fn print_answer(rt: &HostRuntime) -> io::Result<ExitCode> {
     let mut text = Vec::new(rt.alloc());
     rt.stdin().take(MOST_READ).read_to_end(&mut text)?;
     let mut rows = vec![in rt.alloc(); Standing::start(); 512]?;
     let mut notes = vec![in rt.alloc(); 0u32; 512]?;
     let mut out = [0u8; 512];
-    let printed = answer(&text, &mut rows, &mut notes, &mut out);
-    let length = printed.length;
-    rt.stdout().write_all(&out[0..length])?;
-    Ok(printed.granted)
+    let (length, status) = match answer(&text, &mut rows, &mut notes, &mut out) {
+        Ok(length) => (length, ExitCode::SUCCESS),
+        Err(length) => (length, ExitCode::FAILURE),
+    };
+    rt.stdout().write_all(&out[..length])?;
+    Ok(status)
 }
 
 // The process ends with status 1 where the listing is refused, or where reading or printing fails.
 fn main(rt: HostRuntime) -> ExitCode {
-    match print_answer(&rt) {
-        Ok(true) => ExitCode::SUCCESS,
-        Ok(false) => ExitCode::FAILURE,
-        Err(error) => {
-            let _ = eprintln!(rt; "{error}");
-            ExitCode::FAILURE
-        }
-    }
+    print_answer(&rt).unwrap_or_else(|error| {
+        let _ = eprintln!(rt; "{error}");
+        ExitCode::FAILURE
+    })
 }

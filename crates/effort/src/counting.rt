@@ -6,6 +6,7 @@ use machines::machine::{Machine, Taken};
 use machines::picture::Picture;
 use std::cell::Cell;
 
+// Each call is handed on by hand: a trait has no plainer way to be another value in all its calls but one.
 #[derive(Clone, Copy)]
 pub struct Counting<'a, M> {
     pub machine: M,

@@ -18,7 +18,7 @@ use std::io::Read;
 fn explorations(program: &Program, rows: &mut [Standing], notes: &mut [u32]) -> u32 {
     let starts = Cell::new(0);
     let machine = Counting {
-        machine: <Buffered as Kind>::of(*program),
+        machine: Buffered::of(*program),
         starts: &starts,
     };
     let _ = least(
@@ -31,14 +31,14 @@ fn explorations(program: &Program, rows: &mut [Standing], notes: &mut [u32]) -> 
     starts.get()
 }
 
+// A rule of the project: only programs allocate, so what is read and lent here stands in the console as well.
 fn main(rt: HostRuntime) -> io::Result<()> {
     let mut text = Vec::new(rt.alloc());
     rt.stdin().take(4097).read_to_end(&mut text)?;
     let mut rows = vec![in rt.alloc(); Standing::start(); 512]?;
     let mut notes = vec![in rt.alloc(); 0u32; 512]?;
-    let count = match read(&text) {
-        Ok(program) => explorations(&program, &mut rows, &mut notes),
-        Err(_) => 0,
-    };
+    let count = read(&text).map_or(0, |program| {
+        explorations(&program, &mut rows, &mut notes)
+    });
     println!(rt; "explorations {count}")
 }

@@ -1,2 +1,3 @@
+pub mod Appended
 pub mod Befores
-pub mod Placed
+pub mod Decimal

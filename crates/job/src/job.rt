@@ -4,7 +4,7 @@ ghost use Rattle.listing.specs.declared.refusal.Reason.TheVariants.{NoProgram};
 ghost use Rattle.listing.specs.Reading.{reading};
 ghost use Rattle.job.specs.Jobs.{declined, seen, Read, ReadsAs, solved, reported, buffer};
 
-use crate::lines::put_report;
+use crate::lines::report_lines;
 use listing::program::Program;
 use listing::reader::read;
 use listing::refusal::{Reason, Refusal};
@@ -27,7 +27,7 @@ pub struct Job<K> {
 }
 
 // What `look` answers.
-#[derive(Clone, Copy)]
+#[derive(Clone, Copy, Default)]
 pub struct View {
     pub barred: Placement,
     pub kept: Option<Placement>,
@@ -64,6 +64,7 @@ impl<K: Kind + Copy> Job<K> {
     }
 
     // Keeps and answers the fewest open places that keep every fault out.
+    // Of rows and notes in one struct the clause `memory` would speak by places at the exit, and be no plainer.
     pub fn solve(
         &mut self,
         rows: &mut [K::Standing],
@@ -72,39 +73,28 @@ impl<K: Kind + Copy> Job<K> {
         ensures answer { MatchResult result (λ s. (self.new ≡ solved self.old s.places) × (s.fences ≡ count_ones s.places.mask)) (λ e. (self.new ≡ self.old) × (e.line ≡ 0)) }
         ensures memory { self.old.loaded ≡ None → (result ≡ Err (declined NoProgram)) × (rows.new ≡ rows.old) × (notes.new ≡ notes.old) }
     {
-        let Some(loaded) = self.loaded else {
-            return Err(Reason::NoProgram.refusal());
-        };
+        let loaded = self.loaded.as_mut().ok_or(Reason::NoProgram.refusal())?;
         let open = Placement::below(loaded.program.places()).minus(loaded.barred);
-        match least(&loaded.machine, &loaded.program, open, rows, notes) {
-            Ok(places) => {
-                self.loaded = Some(Loaded {
-                    kept: Some(places),
-                    ..loaded
-                });
-                Ok(Solution {
-                    places,
-                    fences: places.count(),
-                })
-            }
-            Err(reason) => Err(reason.refusal()),
-        }
+        let places = least(&loaded.machine, &loaded.program, open, rows, notes).map_err(
+            Reason::refusal,
+        )?;
+        loaded.kept = Some(places);
+        Ok(Solution {
+            places,
+            fences: places.count(),
+        })
     }
 
     // The bars and the kept placement.
     pub fn look(&self) -> View
         ensures { result ≡ seen self.now }
     {
-        match self.loaded {
-            Some(loaded) => View {
+        self.loaded
+            .map(|loaded| View {
                 barred: loaded.barred,
                 kept: loaded.kept,
-            },
-            None => View {
-                barred: Placement::empty(),
-                kept: None,
-            },
-        }
+            })
+            .unwrap_or_default()
     }
 
     // Writes the report of the kept placement, and answers its length.
@@ -113,15 +103,8 @@ impl<K: Kind + Copy> Job<K> {
         ensures after { out.new ≡ buffer self.now out.old }
         ensures limit { IfOk result (λ n. n ≤ 512) }
     {
-        let Some(loaded) = self.loaded else {
-            return Err(Reason::NoProgram.refusal());
-        };
-        let Some(places) = loaded.kept else {
-            return Err(Reason::NoPlacement.refusal());
-        };
-        if out.len() < 512 {
-            return Err(Reason::BufferTooShort.refusal());
-        }
-        Ok(put_report(out, &loaded.program, places))
+        let loaded = self.loaded.as_ref().ok_or(Reason::NoProgram.refusal())?;
+        let places = loaded.kept.ok_or(Reason::NoPlacement.refusal())?;
+        report_lines(&loaded.program, places, out)
     }
 }

@@ -1,9 +1,11 @@
-// The lines that a job writes into a lent buffer.
-ghost use Rattle.std.specs.Prelude.{◌≡◌, ℕ, ◌+◌, ◌<◌, ◌≤◌, length, MatchResult};
+// The lines that a job writes into a lent buffer, put together in fixed memory first.
+ghost use Rattle.std.specs.Prelude.{◌≡◌, ℕ, ◌+◌, ◌<◌, ◌≤◌, ◌++◌, length, IfOk, MatchResult};
+ghost use Rattle.arrayvec.specs.ArrayString.{array_string_len};
 ghost use Rattle.listing.specs.Reasons.{number_of};
-ghost use Rattle.job.specs.Text.{placed, before, befores, report, refusal, told, left};
+ghost use Rattle.job.specs.Text.{before, report, refusal, told, left};
 
-use crate::text::{put, put_number};
+use arrayvec::ArrayString;
+use itoa::Buffer;
 use listing::program::Program;
 use listing::refusal::{Reason, Refusal};
 use machines::placement::Placement;
@@ -11,76 +13,79 @@ use machines::placement::Placement;
 // No line or report needs more bytes than this.
 const LEAST_BUFFER: usize = 512;
 
+// Writes the text at the start of the buffer, and answers its length.
+fn put(text: ArrayString<512>, out: &mut [u8]) -> Result<usize, Refusal>
+    ensures value { result ≡ told text.bytes out.old }
+    ensures after { out.new ≡ left text.bytes out.old }
+    ensures limit { MatchResult result (λ n. n ≤ 512) (λ _. length out.old < 512) }
+{
+    if out.len() < LEAST_BUFFER {
+        return Err(Reason::BufferTooShort.refusal());
+    }
+    let text = text.as_str();
+    out[..text.len()].copy_from_slice(text.as_bytes());
+    Ok(text.len())
+}
+
 // `refused`, the number, `line`, the line.
 pub fn refusal_line(refused: Refusal, out: &mut [u8]) -> Result<usize, Refusal>
     ensures value { result ≡ told (refusal (number_of refused.reason) refused.line) out.old }
     ensures after { out.new ≡ left (refusal (number_of refused.reason) refused.line) out.old }
     ensures limit { MatchResult result (λ n. n ≤ 512) (λ _. length out.old < 512) }
 {
-    if out.len() < LEAST_BUFFER {
-        return Err(Reason::BufferTooShort.refusal());
-    }
-    Ok(put_refusal(out, refused.reason.number(), refused.line))
+    put(refusal_text(refused), out)
 }
 
-fn put_refusal(out: &mut [u8], number: u8, line: u16) -> usize
-    requires { 512 ≤ length out.old }
-    ensures end { result ≡ length (refusal number line) }
-    ensures after { out.new ≡ placed out.old 0 (refusal number line) }
-    ensures limit { result ≤ 512 }
+// The report of a placement.
+pub fn report_lines(program: &Program, places: Placement, out: &mut [u8]) -> Result<usize, Refusal>
+    ensures value { result ≡ told (report program.now places.mask) out.old }
+    ensures after { out.new ≡ left (report program.now places.mask) out.old }
+    ensures limit { IfOk result (λ n. n ≤ 512) }
 {
-    let first = put(out, 0, b"refused ");
-    let second = put_number(out, first, u16::from(number));
-    let third = put(out, second, b" line ");
-    let fourth = put_number(out, third, line);
-    put(out, fourth, b"\n")
+    put(report_text(program, places), out)
 }
 
-// The line that names a place: its thread, and its number within it.
-fn put_before(out: &mut [u8], at: usize, program: &Program, place: u8) -> usize
-    requires at_in_bounds { at + 32 ≤ length out.old }
+// Each text is appended by a call that cannot fail: by its contract `write!` may fail even where there is room.
+fn refusal_text(refused: Refusal) -> ArrayString<512>
+    ensures { result.bytes ≡ refusal (number_of refused.reason) refused.line }
+{
+    let mut text = ArrayString::new();
+    let mut digits = Buffer::new();
+    text.push_str("refused ");
+    text.push_str(digits.format(refused.reason.number()));
+    text.push_str(" line ");
+    text.push_str(digits.format(refused.line));
+    text.push_str("\n");
+    text
+}
+
+// Appends the line that names a place: its thread, and its number within it.
+fn push_before(text: &mut ArrayString<512>, program: &Program, place: u8)
+    requires room { array_string_len text.old + 15 ≤ 512 }
     requires place_bound { place < 32 }
-    ensures end { result ≡ at + length (before program.now place) }
-    ensures after { out.new ≡ placed out.old at (before program.now place) }
-    ensures limit { result ≤ at + 13 }
+    ensures after { text.new.bytes ≡ text.old.bytes ++ before program.now place }
+    ensures limit { array_string_len text.new ≤ array_string_len text.old + 15 }
 {
     let thread = program.thread_at(place);
     let number = place - program.first_place(thread);
-    let first = put(out, at, b"before ");
-    let second = put_number(out, first, u16::from(thread));
-    let third = put(out, second, b" ");
-    let fourth = put_number(out, third, u16::from(number));
-    put(out, fourth, b"\n")
-}
-
-// The lines of the places of a set, lowest first.
-fn put_befores(out: &mut [u8], at: usize, program: &Program, places: Placement) -> usize
-    requires { at + 448 ≤ length out.old }
-    ensures end { result ≡ at + length (befores program.now 32 places.mask) }
-    ensures after { out.new ≡ placed out.old at (befores program.now 32 places.mask) }
-    ensures limit { result ≤ at + 416 }
-{
-    let mut end = at;
-    let mut rest = places;
-    for _turn in 0u8..32 {
-        let Some(place) = rest.lowest() else {
-            break;
-        };
-        end = put_before(out, end, program, place);
-        rest = rest.without(place);
-    }
-    end
+    let mut digits = Buffer::new();
+    text.push_str("before ");
+    text.push_str(digits.format(thread));
+    text.push_str(" ");
+    text.push_str(digits.format(number));
+    text.push_str("\n");
 }
 
 // `fences` and their count, then a line for each place.
-pub fn put_report(out: &mut [u8], program: &Program, places: Placement) -> usize
-    requires { 512 ≤ length out.old }
-    ensures end { result ≡ length (report program.now places.mask) }
-    ensures after { out.new ≡ placed out.old 0 (report program.now places.mask) }
-    ensures limit { result ≤ 512 }
+fn report_text(program: &Program, places: Placement) -> ArrayString<512>
+    ensures { result.bytes ≡ report program.now places.mask }
 {
-    let first = put(out, 0, b"fences ");
-    let second = put_number(out, first, places.count() as u16);
-    let third = put(out, second, b"\n");
-    put_befores(out, third, program, places)
+    let mut text = ArrayString::new();
+    text.push_str("fences ");
+    text.push_str(Buffer::new().format(places.count()));
+    text.push_str("\n");
+    for place in places {
+        push_before(&mut text, program, place);
+    }
+    text
 }

@@ -1,10 +1,12 @@
 -- Which places a mask can hold. Nothing is assumed.
-use Rattle.std.proofs.Common.{◌≡◌, ℕ, zero, suc, ◌+◌, ◌-◌, ◌*◌, ◌/◌, ◌%◌, ◌^◌, ◌<◌, ◌≤◌, Bool, true, false, cond, eqb, IfSome, Some, None, Option, sym, ⊎_elim, suc-le-suc, zero-le, lt_of_lt_of_le, mul-le-mul_right, zero-add, div-mul-le_self, arith, pow_mono}
-use native.Mathlib.Nat.{mod-le}
-use lib.Bits.{shifted_half, shifted_even}
-use lib.Count.{count_trailing_zeros}
-use Rattle.std.proofs.lemmas.Bool.{eqb-true, ne_eqb, cond-true, both_ways, cases_lt}
-use Rattle.std.proofs.lemmas.Nat.{shr_below, one_shl}
+use Rattle.std.proofs.Common.{◌≡◌, ℕ, zero, suc, ◌+◌, ◌-◌, ◌*◌, ◌/◌, ◌%◌, ◌^◌, ◌<◌, ◌≤◌, Bool, true, false, cond, eqb, IfSome, Some, None, Option, sym, ⊎_elim, suc-le-suc, zero-le, lt_of_lt_of_le, mul-le-mul_right, zero-add, div-mul-le_self, arith, pow_mono, bit_and, bit_xor, count_ones, ap, ap₂, ◌∙◌, add-zero, eq-eqb, pow_pos, refl}
+use native.Mathlib.Nat.{mod-le, mod-lt, div-add-mod', pow-suc}
+use lib.Bits.{shifted_half, shifted_even, and_mask, xor_block, xor_zero_r, xor_self}
+use lib.Count.{count_trailing_zeros, under, ones_step}
+use Rattle.std.proofs.lemmas.Bool.{eqb-true, ne_eqb, cond-true, cond_both, both_ways, cases_lt}
+use Rattle.std.proofs.lemmas.Nat.{shr_below}
+use Rattle.std.proofs.lemmas.Nat.Bits.{bit_at_lowest, bit_at-suc}
+use Rattle.std.specs.Int.{bit_at}
 use Rattle.machines.specs.Places.{has, removing, from_place, lowest}
 
 pub past_none : (s p : ℕ) → s < 2 ^ 32 → 32 ≤ p → has s p ≡ false
@@ -23,10 +25,55 @@ has_within s p h =
     let part : 1 * 2 ^ p ≤ s / 2 ^ p * 2 ^ p = mul-le-mul_right (2 ^ p) some in
     omega (arith, div-mul-le_self s (2 ^ p))
 
-pub removed_is : (s p q : ℕ) → s < 2 ^ 32 → q ≡ p → has s p ≡ true → s - (1 * 2 ^ q) % 4294967296 ≡ removing s p
-removed_is s p q small e h =
-    let low : p < 32 = has_low s p small h in
-    rw (e, one_shl p 32 low) (sym (cond-true _ _ _ h))
+-- what is left of a set without the places below n
+pub past_below : (s n : ℕ) → bit_xor s (bit_and s (2 ^ n - 1)) ≡ from_place s n
+past_below s n =
+    let parts : s / 2 ^ n * 2 ^ n + s % 2 ^ n ≡ s = div-add-mod' s (2 ^ n) in
+    let rest : 0 * 2 ^ n + s % 2 ^ n ≡ s % 2 ^ n = omega arith in
+    let small : s % 2 ^ n < 2 ^ n = mod-lt s (pow_pos n) in
+    ap (bit_xor s) (and_mask s n)
+    ∙ (ap₂ bit_xor (sym parts) (sym rest)
+    ∙ (xor_block n (s / 2 ^ n) 0 (s % 2 ^ n) (s % 2 ^ n) small small
+    ∙ (ap₂ (λ x y. x * 2 ^ n + y) (xor_zero_r (s / 2 ^ n)) (xor_self (s % 2 ^ n)) ∙ add-zero _)))
+
+-- a set without one of its places has one less
+fewer : (p s : ℕ) → s / 2 ^ p % 2 ≡ 1 → count_ones (s - 2 ^ p) + 1 ≡ count_ones s
+fewer zero s h =
+    let odd : s % 2 ≡ 1 = omega (arith, h) in
+    let half : (s - 1) / 2 ≡ s / 2 = omega arith in
+    omega (arith, ones_step s, ones_step (s - 1), ap count_ones half)
+fewer (suc p) s h =
+    let same : bit_at s (suc p) ≡ bit_at (s / 2) p = bit_at-suc s p in
+    let within : 2 ^ suc p ≤ s = has_within s (suc p) (eq-eqb _ _ h) in
+    let twice : 2 ^ suc p ≡ 2 ^ p * 2 = pow-suc 2 p in
+    let half : (s - 2 ^ suc p) / 2 ≡ s / 2 - 2 ^ p = omega arith in
+    omega (arith, ones_step s, ones_step (s - 2 ^ suc p), ap count_ones half, fewer p (s / 2) (sym same ∙ h))
+
+pub removing_within : (s p : ℕ) → removing s p ≤ s
+removing_within s p = cond_both (has s p) (s - 2 ^ p) s (λ t. t ≤ s) (λ _. omega arith) (λ _. omega arith)
+
+pub fewer_without : (s p : ℕ) → has s p ≡ true → count_ones (removing s p) + 1 ≡ count_ones s
+fewer_without s p h = ap (λ m. count_ones m + 1) (cond-true _ _ _ h) ∙ fewer p s (eqb-true _ _ h)
+
+-- where zeros end below the top, a one stands
+trailing_set : (k n : ℕ) → count_trailing_zeros k n < k → bit_at n (count_trailing_zeros k n) ≡ 1
+unfolding count_trailing_zeros
+trailing_set zero n h = absurd (omega arith)
+trailing_set (suc k) n h = from (trailing_set k (n / 2)) (n % 2) refl h
+  where
+    from : (count_trailing_zeros k (n / 2) < k → bit_at (n / 2) (count_trailing_zeros k (n / 2)) ≡ 1)
+        → (d : ℕ) → n % 2 ≡ d → under d (count_trailing_zeros k (n / 2)) < suc k → bit_at n (under d (count_trailing_zeros k (n / 2))) ≡ 1
+    from rest zero e h = bit_at-suc n (count_trailing_zeros k (n / 2)) ∙ rest (omega arith)
+    from rest (suc d) e h = bit_at_lowest n ∙ omega arith
+
+pub has_lowest : (s p : ℕ) → p < 32 → Some p ≡ lowest s → has s p ≡ true
+has_lowest s p low e = here (eqb s 0) e
+  where
+    here : (b : Bool) → Some p ≡ cond b None (Some (count_trailing_zeros 32 s)) → has s p ≡ true
+    here true e = let z : ◌≡◌ {A = ℕ} 0 1 = cc in absurd (omega arith)
+    here false e =
+        let same : p ≡ count_trailing_zeros 32 s = cc in
+        eq-eqb _ _ (ap (bit_at s) same ∙ trailing_set 32 s (omega arith))
 
 pub trailing_from : (k n x : ℕ) → n ≤ k → n ≤ count_trailing_zeros k (x * 2 ^ n)
 unfolding count_trailing_zeros

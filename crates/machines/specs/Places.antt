@@ -5,7 +5,8 @@
 --   first_places n    all places below n
 --   from_place s n    those of the set that are not below n
 --   lowest s          its lowest place, if it has one
-use Rattle.std.specs.Prelude.{ℕ, ◌-◌, ◌*◌, ◌/◌, ◌%◌, ◌^◌, Bool, cond, Some, None, Option, ◌==◌, bit_or}
+--   TakesLowest s r t the lowest place of s is r, and t is s without it; r is none and t is empty where s is empty
+use Rattle.std.specs.Prelude.{◌≡◌, ℕ, ◌-◌, ◌*◌, ◌/◌, ◌%◌, ◌^◌, Bool, cond, Some, None, Option, ◌==◌, bit_or}
 use Rattle.std.specs.Int.Count.{count_trailing_zeros}
 
 abbrev pub has : ℕ → ℕ → Bool
@@ -25,3 +26,7 @@ from_place s n = s / 2 ^ n * 2 ^ n
 
 abbrev pub lowest : ℕ → Option ℕ
 lowest s = cond (s == 0) None (Some (count_trailing_zeros 32 s))
+
+abbrev pub TakesLowest : ℕ → Option ℕ → ℕ → Type 0
+TakesLowest s None t = (s ≡ 0) × (t ≡ 0)
+TakesLowest s (Some p) t = (lowest s ≡ Some p) × (t ≡ removing s p)

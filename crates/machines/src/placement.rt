@@ -1,11 +1,13 @@
 // A set of places, as a mask: bit p is set where the place p is in it.
 ghost use Rattle.std.specs.Prelude.{◌≡◌, ℕ, ◌+◌, ◌-◌, ◌^◌, ◌<◌, ◌≤◌, Bool, not, IfSome, ◌==◌, bit_and, bit_xor, count_ones};
 ghost use Rattle.std.specs.Int.Bits.{bit_or};
-ghost use Rattle.machines.specs.Places.{has, adding, removing, first_places, from_place, lowest};
+ghost use Rattle.std.specs.Iterator.{at_most};
+ghost use Rattle.machines.specs.Places.{has, adding, removing, first_places, from_place, lowest, TakesLowest};
 
 use few::Filler;
 
-#[derive(Clone, Copy, PartialEq, Eq)]
+// A rule of the project: a place stays a `u8` below 32 by clauses, since a type of its own would ask more of callers.
+#[derive(Clone, Copy, PartialEq, Eq, Default)]
 pub struct Placement {
     pub mask: u32,
 }
@@ -30,20 +32,15 @@ impl Placement {
         requires { end ≤ 32 }
         ensures { result.mask ≡ first_places end }
     {
-        let end = u32::from(end);
-        if end == 32 {
-            Placement { mask: u32::MAX }
-        } else {
-            Placement {
-                mask: (1 << end) - 1,
-            }
+        Placement {
+            mask: ((1u64 << end) - 1) as u32,
         }
     }
 
+    #[tactic(auto, using(crate::proofs::Masks::past_none))]
     pub fn contains(self, place: u8) -> bool
         ensures { result ≡ has self.mask place }
     {
-        let place = u32::from(place);
         place < 32 && (self.mask >> place) % 2 == 1
     }
 
@@ -52,16 +49,17 @@ impl Placement {
         ensures { result.mask ≡ adding self.mask place }
     {
         Placement {
-            mask: self.mask | (1 << u32::from(place)),
+            mask: self.mask | (1 << place),
         }
     }
 
+    #[tactic(auto, using(crate::proofs::Masks::has_low, crate::proofs::Masks::has_within))]
     pub fn without(self, place: u8) -> Self
         ensures { result.mask ≡ removing self.mask place }
     {
         if self.contains(place) {
             Placement {
-                mask: self.mask - (1 << u32::from(place)),
+                mask: self.mask - (1 << place),
             }
         } else {
             self
@@ -86,18 +84,12 @@ impl Placement {
     }
 
     // The places of this set from this one on.
+    #[tactic(auto, using(crate::proofs::Masks::past_below))]
     pub fn from(self, start: u8) -> Self
         requires { start ≤ 32 }
         ensures { result.mask ≡ from_place self.mask start }
     {
-        let start = u32::from(start);
-        if start == 32 {
-            Placement { mask: 0 }
-        } else {
-            Placement {
-                mask: (self.mask >> start) << start,
-            }
-        }
+        self.minus(Placement::below(start))
     }
 
     pub fn is_empty(self) -> bool
@@ -118,11 +110,7 @@ impl Placement {
         ensures value { result ≡ lowest self.mask }
         ensures limit { IfSome result (λ place. place < 32) }
     {
-        if self.mask == 0 {
-            None
-        } else {
-            Some(self.mask.trailing_zeros() as u8)
-        }
+        (self.mask != 0).then(|| self.mask.trailing_zeros() as u8)
     }
 
     // The lowest place of the set from this one on.
@@ -132,5 +120,37 @@ impl Placement {
         ensures limit { IfSome result (λ place. (start ≤ place) × (place < 32)) }
     {
         self.from(start).lowest()
+    }
+}
+
+// The places of a set, lowest first: those that are still to come.
+#[derive(Clone, Copy)]
+pub struct Places {
+    pub left: Placement,
+}
+
+impl Iterator for Places {
+    type Item = u8;
+
+    ghost next_gives = { λ s place t. TakesLowest s.left.mask place t.left.mask };
+
+    ghost remaining = { λ s. at_most (count_ones s.left.mask) };
+
+    fn next(&mut self) -> Option<u8> {
+        let place = self.left.lowest()?;
+        self.left = self.left.without(place);
+        Some(place)
+    }
+}
+
+impl IntoIterator for Placement {
+    type Item = u8;
+
+    type IntoIter = Places;
+
+    ghost into_iter_gives = { λ s places. places.left ≡ s };
+
+    fn into_iter(self) -> Places {
+        Places { left: self }
     }
 }

@@ -1,6 +1,9 @@
 // Sets of places crossed by fault runs met so far. A set of fences that misses one of them is not enough.
-ghost use Rattle.std.specs.Prelude.{◌≡◌, ◌+◌, ◌≤◌, min};
+ghost use Rattle.std.specs.Prelude.{◌≡◌, ◌+◌, ◌-◌, [], ◌∷◌, ◌++◌, length, drop, min};
+ghost use Rattle.std.specs.List.{list_any};
+ghost use Rattle.search.specs.Crossed.{misses};
 
+use few::Few;
 use machines::placement::Placement;
 
 const MOST: usize = 64;
@@ -8,43 +11,32 @@ const MOST: usize = 64;
 // The last few dozen: forgetting one costs time and changes no answer.
 #[derive(Clone, Copy)]
 pub struct Crossings {
-    sets: [Placement; 64],
-    count: usize,
-    oldest: usize,
-    ghost fits: { count ≤ 64 },
+    sets: Few<Placement, 64>,
 }
 
 impl Crossings {
     pub fn new() -> Self
-        ensures { result.count ≡ 0 }
+        ensures { result.sets ≡ [] }
     {
-        Crossings {
-            sets: [Placement::empty(); 64],
-            count: 0,
-            oldest: 0,
-        }
+        Crossings { sets: Few::new() }
     }
 
     // Keeps one set more, in place of the oldest where there is no room.
     pub fn note(&mut self, crossed: Placement)
-        ensures { self.new.count ≡ min 64 (self.old.count + 1) }
+        ensures counted { length self.new.sets ≡ min 64 (length self.old.sets + 1) }
+        ensures kept { self.new.sets ≡ drop (length self.old.sets - 63) self.old.sets ++ crossed ∷ [] }
     {
-        if self.count < MOST {
-            self.sets[self.count] = crossed;
-            self.count += 1;
-        } else {
-            self.sets[self.oldest % MOST] = crossed;
-            self.oldest = (self.oldest % MOST) + 1;
+        if self.sets.len() == MOST {
+            self.sets.remove_first();
         }
+        self.sets.push(crossed);
     }
 
     // Whether some set noted has no place in `chosen` and none in `later`.
-    pub fn missed(&self, chosen: Placement, later: Placement) -> bool {
-        for set in self.sets.iter().take(self.count) {
-            if set.common(chosen).is_empty() && set.common(later).is_empty() {
-                return true;
-            }
-        }
-        false
+    pub fn missed(&self, chosen: Placement, later: Placement) -> bool
+        ensures { result ≡ list_any (misses chosen later) self.now.sets }
+    {
+        self.sets.as_slice().iter().any(|set| set.common(chosen).is_empty()
+            && set.common(later).is_empty())
     }
 }

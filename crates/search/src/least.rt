@@ -2,7 +2,7 @@
 ghost use Rattle.std.specs.Prelude.{◌≤◌};
 
 use crate::crossings::Crossings;
-use crate::explore::{Extent, crossed, explore};
+use crate::explore::{Extent, Judged};
 use crate::table::Table;
 use listing::program::Program;
 use listing::refusal::Reason;
@@ -10,115 +10,92 @@ use machines::fenced::Fenced;
 use machines::machine::Machine;
 use machines::placement::Placement;
 
-// What is asked: which of the open places to fence.
+// Which of the open places to fence: what is asked, and what the sets tried so far have shown.
 #[derive(Drop)]
-struct Question<'a, M> {
-    machine: &'a M,
-    program: &'a Program,
+struct Search<'q, 't, M: Machine> {
+    unfenced: Judged<'q, M>,
     open: Placement,
+    table: Table<'t, M::Standing>,
+    known: Crossings,
 }
 
-// Whether no fault run keeps to the set; where one does, the places that it crosses are noted.
-fn is_enough<M: Machine + Copy>(
-    question: &Question<'_, M>,
-    table: &mut Table<'_, M::Standing>,
-    known: &mut Crossings,
-    places: Placement,
-) -> bool {
-    let fenced = Fenced {
-        machine: *question.machine,
-        places,
-    };
-    match explore(&fenced, question.program, table, Extent::FirstFault) {
-        Ok(None) => true,
-        Ok(Some(row)) => {
-            known.note(crossed(&fenced, table, row));
-            false
-        }
-        Err(_) => false,
-    }
-}
-
-// The first set that is enough among those that hold `chosen` and `left` more open places from `from` on; a set that
-// holds a lower place comes first.
-fn first_enough<M: Machine + Copy>(
-    question: &Question<'_, M>,
-    table: &mut Table<'_, M::Standing>,
-    known: &mut Crossings,
-    chosen: Placement,
-    from: u8,
-    left: u32,
-) -> Option<Placement>
-    requires { from ≤ 32 }
-{
-    let later = if left == 0 {
-        Placement::empty()
-    } else {
-        question.open.from(from)
-    };
-    if known.missed(chosen, later) {
-        return None;
-    }
-    if left == 0 {
-        return if is_enough(question, table, known, chosen) {
-            Some(chosen)
-        } else {
-            None
+impl<M: Machine + Copy> Search<'_, '_, M> {
+    // Whether no fault run keeps to the set; where one does, the places that it crosses are noted.
+    fn is_enough(&mut self, places: Placement) -> bool {
+        let machine = Fenced {
+            machine: *self.unfenced.machine,
+            places,
         };
+        let fenced = Judged {
+            machine: &machine,
+            program: self.unfenced.program,
+        };
+        match fenced.explore(&mut self.table, Extent::FirstFault) {
+            Ok(None) => true,
+            Ok(Some(row)) => {
+                self.known.note(fenced.crossed(&self.table, row));
+                false
+            }
+            Err(_) => false,
+        }
     }
-    let place = question.open.lowest_from(from)?;
-    let taken = first_enough(
-        question,
-        table,
-        known,
-        chosen.with(place),
-        place + 1,
-        left - 1,
-    );
-    if taken.is_some() {
-        return taken;
+
+    // The first set that is enough among those that hold `chosen` and `left` more open places from `from` on; a set that
+    // holds a lower place comes first.
+    fn first_enough(&mut self, chosen: Placement, from: u8, left: u32) -> Option<Placement>
+        requires { from ≤ 32 }
+    {
+        let later = if left == 0 {
+            Placement::empty()
+        } else {
+            self.open.from(from)
+        };
+        if self.known.missed(chosen, later) {
+            return None;
+        }
+        if left == 0 {
+            return self.is_enough(chosen).then_some(chosen);
+        }
+        let place = self.open.lowest_from(from)?;
+        let taken = self.first_enough(chosen.with(place), place + 1, left - 1);
+        if taken.is_some() {
+            return taken;
+        }
+        self.first_enough(chosen, place + 1, left)
     }
-    first_enough(question, table, known, chosen, place + 1, left)
+
+    // Explores with no fence first: that alone decides whether the rows suffice.
+    fn least(&mut self) -> Result<Placement, Reason> {
+        let Some(row) = self.unfenced.explore(&mut self.table, Extent::Whole)? else {
+            return Ok(Placement::empty());
+        };
+        self.known.note(self.unfenced.crossed(&self.table, row));
+        let open = self.open;
+        if !self.is_enough(open) {
+            return Err(Reason::NoneEnough);
+        }
+        Ok(
+            (1..open.count())
+                .find_map(|count| self.first_enough(Placement::empty(), 0, count))
+                .unwrap_or(open),
+        )
+    }
 }
 
 // The fewest open places that keep every fault out; of equal counts, the set that holds the lowest place in which the
-// two differ.
-pub fn least<'q, M: Machine + Copy>(
-    machine: &'q M,
-    program: &'q Program,
+// two differ. Rows and notes are no struct: where one's slices are lent on to the table, the check makes no proof.
+pub fn least<M: Machine + Copy>(
+    machine: &M,
+    program: &Program,
     open: Placement,
     rows: &mut [M::Standing],
     notes: &mut [u32],
 ) -> Result<Placement, Reason> {
-    let mut table = Table::new(rows, notes);
-    let Ok(fault) = explore(machine, program, &mut table, Extent::Whole) else {
-        return Err(Reason::TooFewRows);
-    };
-    let Some(row) = fault else {
-        return Ok(Placement::empty());
-    };
-    let mut known = Crossings::new();
-    known.note(crossed(machine, &table, row));
-    let question = Question {
-        machine,
-        program,
+    let mut search = Search {
+        unfenced: Judged { machine, program },
         open,
+        table: Table::new(rows, notes),
+        known: Crossings::new(),
     };
-    if !is_enough(&question, &mut table, &mut known, open) {
-        return Err(Reason::NoneEnough);
-    }
-    for count in 1..open.count() {
-        let found = first_enough(
-            &question,
-            &mut table,
-            &mut known,
-            Placement::empty(),
-            0,
-            count,
-        );
-        if let Some(places) = found {
-            return Ok(places);
-        }
-    }
-    Ok(open)
+    search.least()
 }
