@@ -62,6 +62,13 @@ line_in ts l few h =
 pub lines_sound : (p : Program) → all line_sound (lines_of p) ≡ true
 lines_sound p = all_weaker (fault_keeps p.threads) line_sound (λ l. line_in p.threads l (few_threads p)) p.faults (kept p).aim
 
+sound_conditions : (l : List Condition) → line_sound l ≡ true → all condition_sound l ≡ true
+unfolding line_sound
+sound_conditions l h = (and_parts _ (all condition_sound l) h).1
+
+pub conditions_sound : (p : Program) → all (all condition_sound) (lines_of p) ≡ true
+conditions_sound p = all_weaker line_sound (all condition_sound) sound_conditions p.faults (lines_sound p)
+
 pub same_program : (p q : Program) → code_of p ≡ code_of q → p ≡ q
 same_program p q e =
     let bounds : p.bound ≡ q.bound = ap (λ (c : Code). c.bound) e in

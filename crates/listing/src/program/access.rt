@@ -1,7 +1,7 @@
 // What the layers above ask of a program.
 ghost use Rattle.std.specs.Prelude.{◌≡◌, ℕ, ◌+◌, ◌<◌, ◌≤◌, true, [], length, slice_index_or, OnSome};
 ghost use Rattle.listing.specs.Limits.{all, together};
-ghost use Rattle.listing.specs.Code.{code_of, length_of, fetched, place_of, thread_at, places, lines_of, line_sound};
+ghost use Rattle.listing.specs.Code.{code_of, condition_sound, length_of, fetched, place_of, thread_at, places, lines_of, line_sound};
 
 use crate::code::{FaultLine, Instruction, together};
 use crate::program::Program;
@@ -97,6 +97,7 @@ impl Program {
     pub fn faults(&self) -> &[FaultLine]
         ensures value { result.now ≡ lines_of self.now }
         ensures sound { all line_sound result.now ≡ true }
+        ensures conditions { all (all condition_sound) result.now ≡ true }
     {
         self.faults.as_slice()
     }
