@@ -11,7 +11,7 @@ use Rattle.listing.specs.declared.refusal.Refusal.{Refusal}
 use Rattle.listing.specs.declared.refusal.Reason.{Reason}
 use Rattle.listing.specs.declared.refusal.Reason.TheVariants as reason
 use Rattle.listing.specs.Code.{Code, code_of, places}
-use Rattle.listing.specs.Reading.{together}
+use Rattle.listing.specs.Limits.{together}
 use Rattle.machines.specs.declared.placement.Placement.{Placement}
 use Rattle.job.specs.declared.job.Loaded.{Loaded}
 use Rattle.job.specs.declared.job.Job.{Job}
