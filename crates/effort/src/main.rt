@@ -37,8 +37,9 @@ fn main(rt: HostRuntime) -> io::Result<()> {
     rt.stdin().take(4097).read_to_end(&mut text)?;
     let mut rows = vec![in rt.alloc(); Standing::start(); 512]?;
     let mut notes = vec![in rt.alloc(); 0u32; 512]?;
-    let count = read(&text).map_or(0, |program| {
-        explorations(&program, &mut rows, &mut notes)
-    });
+    let count = match read(&text) {
+        Ok(program) => explorations(&program, &mut rows, &mut notes),
+        Err(_) => 0,
+    };
     println!(rt; "explorations {count}")
 }
