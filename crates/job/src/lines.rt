@@ -1,4 +1,5 @@
-// The lines that a job writes into a lent buffer, put together in fixed memory first.
+// The lines that a job writes into a lent buffer, put together in fixed memory first. That a length is at most 512 stays a
+// clause: a type for it would ask callers of `refusal_line` to take it apart.
 ghost use Rattle.std.specs.Prelude.{◌≡◌, ℕ, ◌+◌, ◌<◌, ◌≤◌, ◌++◌, length, IfOk, MatchResult};
 ghost use Rattle.arrayvec.specs.ArrayString.{array_string_len};
 ghost use Rattle.listing.specs.Reasons.{number_of};

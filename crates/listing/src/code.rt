@@ -19,6 +19,7 @@ pub enum Variable {
     H,
 }
 
+// A trait for this `number` and a register's would need both bodies and both clauses all the same.
 impl Variable {
     // Its place in memory.
     pub fn number(self) -> usize

@@ -44,6 +44,8 @@ fn kind_of(byte: u8) -> Kind
     }
 }
 
+// One test each, and one search each by that test: the library's `position` and `all` are the generic search, and each call
+// is proved where it is the whole of a function.
 fn is_comment(byte: u8) -> bool
     ensures { result ≡ comments byte }
 {

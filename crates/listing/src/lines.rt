@@ -111,6 +111,7 @@ fn register_named(word: &[u8]) -> Option<Register>
     }
 }
 
+// A rule of the project: the parts of a line are had one by one by `let .. else`.
 impl<'a> Words<'a> {
     // What the next word names.
     fn named<T: Drop, F: Fn(&[u8]) -> Option<T>>(&mut self, names: F) -> Result<T, Refusal>
@@ -298,6 +299,7 @@ fn in_range(low: u8, high: u8, digits: &[u8]) -> Option<u8>
     if low <= n && n <= high { Some(n) } else { None }
 }
 
+// The ranges by their names, so that each pair of numbers stands once.
 pub(crate) fn bound(digits: &[u8]) -> Option<u8>
     ensures { result ≡ number_read 1 4 digits.entry }
 {

@@ -35,6 +35,7 @@ pub fn read(text: &[u8]) -> Result<Program, Refusal>
     let mut draft = Draft::new();
     let mut rest = text;
     let mut line = 0;
+    // `split` would give one line more after the last line end, and count lines all the same.
     while !rest.is_empty() {
         let (bytes, after) = first_line(rest);
         line += 1;

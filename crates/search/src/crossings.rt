@@ -6,8 +6,6 @@ ghost use Rattle.search.specs.Crossed.{misses};
 use few::Few;
 use machines::placement::Placement;
 
-const MOST: usize = 64;
-
 // The last few dozen: forgetting one costs time and changes no answer.
 #[derive(Clone, Copy)]
 pub struct Crossings {
@@ -26,7 +24,7 @@ impl Crossings {
         ensures counted { length self.new.sets ≡ min 64 (length self.old.sets + 1) }
         ensures kept { self.new.sets ≡ drop (length self.old.sets - 63) self.old.sets ++ crossed ∷ [] }
     {
-        if self.sets.len() == MOST {
+        if self.sets.is_full() {
             self.sets.remove_first();
         }
         self.sets.push(crossed);

@@ -1,4 +1,5 @@
-// What a line adds to a draft, if it may stand there and there is room for it.
+// What a line adds to a draft, if it may stand there and there is room for it. The number of the line is handed beside each
+// part: a struct of the two would be made and taken apart at each call.
 ghost use Rattle.std.specs.Prelude.{◌≡◌, ◌<◌, true, IfErr, length};
 ghost use Rattle.listing.specs.Drafts.{Adds, progress_of};
 ghost use Rattle.listing.specs.Forms.{means, thread_line, instruction_line, fault_line as fault_says};

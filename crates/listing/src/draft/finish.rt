@@ -73,10 +73,10 @@ impl Draft {
         ensures { result ≡ condition_there self.now.threads condition }
     {
         match condition {
-            Condition::At(thread, place) => match self.threads.get(usize::from(thread)) {
-                Some(code) => usize::from(place) <= code.len(),
-                None => false,
-            },
+            Condition::At(thread, place) => self
+                .threads
+                .get(usize::from(thread))
+                .is_some_and(|code| usize::from(place) <= code.len()),
             Condition::Holds(thread, _, _) => usize::from(thread) < self.threads.len(),
             Condition::Memory(_, _) => true,
         }
@@ -108,9 +108,7 @@ impl Draft {
         ensures value { told code_of result ≡ finished (progress_of self.now) }
     {
         self.check_threads_used()?;
-        let Some(bound) = self.bound else {
-            return Err(Reason::Missing.refusal());
-        };
+        let bound = self.bound.ok_or(Reason::Missing.refusal())?;
         if self.threads.is_empty() || self.faults.is_empty() {
             return Err(Reason::Missing.refusal());
         }

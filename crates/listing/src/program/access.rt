@@ -1,4 +1,5 @@
-// What the layers above ask of a program.
+// What the layers above ask of a program. A cast is of a number that a clause bounds: `try_from` would answer a `Result`
+// that is never an error.
 ghost use Rattle.std.specs.Prelude.{◌≡◌, ℕ, ◌+◌, ◌<◌, ◌≤◌, true, [], length, slice_index_or, OnSome};
 ghost use Rattle.listing.specs.Limits.{all, together};
 ghost use Rattle.listing.specs.Code.{code_of, condition_sound, length_of, fetched, place_of, thread_at, places, lines_of, line_sound};
@@ -27,10 +28,10 @@ impl Program {
         ensures value { result.now ≡ slice_index_or self.now.threads thread [] }
         ensures limit { length result.now ≤ 16 }
     {
-        match self.threads.as_slice().get(usize::from(thread)) {
-            Some(code) => code.as_slice(),
-            None => &[],
-        }
+        self.threads
+            .as_slice()
+            .get(usize::from(thread))
+            .map_or(&[], |code| code.as_slice())
     }
 
     // The number of instructions of a thread, 0 where there is no such thread.
