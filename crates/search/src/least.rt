@@ -57,6 +57,7 @@ impl<M: Machine + Copy> Search<'_, '_, M> {
             return self.is_enough(chosen).then_some(chosen);
         }
         let place = self.open.lowest_from(from)?;
+        // By `or_else` the closure would be part of the recursion, and want a measure of its own.
         let taken = self.first_enough(chosen.with(place), place + 1, left - 1);
         if taken.is_some() {
             return taken;
