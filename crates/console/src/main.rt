@@ -27,7 +27,7 @@ fn print_answer(rt: &HostRuntime) -> io::Result<ExitCode> {
     Ok(status)
 }
 
-// The process ends with status 1 where the listing is refused, or where reading or printing fails.
+// The process ends with status 1 where the listing is refused, or where reading, memory or printing fails.
 fn main(rt: HostRuntime) -> ExitCode {
     print_answer(&rt).unwrap_or_else(|error| {
         let _ = eprintln!(rt; "{error}");

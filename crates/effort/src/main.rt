@@ -37,7 +37,7 @@ fn main(rt: HostRuntime) -> io::Result<()> {
     rt.stdin().take(4097).read_to_end(&mut text)?;
     let mut rows = vec![in rt.alloc(); Standing::start(); 512]?;
     let mut notes = vec![in rt.alloc(); 0u32; 512]?;
-    // By `map_or`, with a closure that lends rows and notes on, the check gives up: it is not told where a type stands.
+    // By `map_or`, with a closure that lends rows and notes on, the check makes no proof.
     let count = match read(&text) {
         Ok(program) => explorations(&program, &mut rows, &mut notes),
         Err(_) => 0,

@@ -6,7 +6,7 @@ ghost use Rattle.std.specs.Prelude.{◌≡◌, ◌+◌, ◌-◌, ◌<◌, ◌≤
 use std::alloc::AllocError;
 use std::marker::Model;
 
-// What stands in room that no value uses.
+// What stands in room that no value uses. `Default` says which values it may give, and an invariant has to name the one.
 pub trait Filler: Copy {
     ghost filler: { Self };
 

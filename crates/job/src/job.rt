@@ -4,7 +4,7 @@ ghost use Rattle.listing.specs.declared.refusal.Reason.TheVariants.{NoProgram};
 ghost use Rattle.listing.specs.Reading.{reading};
 ghost use Rattle.job.specs.Jobs.{declined, seen, Read, ReadsAs, solved, reported, buffer};
 
-use crate::lines::report_lines;
+use crate::lines::{long_enough, put_report};
 use listing::program::Program;
 use listing::reader::read;
 use listing::refusal::{Reason, Refusal};
@@ -64,7 +64,7 @@ impl<K: Kind + Copy> Job<K> {
     }
 
     // Keeps and answers the fewest open places that keep every fault out.
-    // Of rows and notes in one struct the clause `memory` would speak by places at the exit, and be no plainer.
+    // Rows and notes are no struct: a clause on what it holds after the call would be longer than these two.
     pub fn solve(
         &mut self,
         rows: &mut [K::Standing],
@@ -105,6 +105,7 @@ impl<K: Kind + Copy> Job<K> {
     {
         let loaded = self.loaded.as_ref().ok_or(Reason::NoProgram.refusal())?;
         let places = loaded.kept.ok_or(Reason::NoPlacement.refusal())?;
-        report_lines(&loaded.program, places, out)
+        long_enough(out)?;
+        Ok(put_report(out, &loaded.program, places))
     }
 }

@@ -1,10 +1,12 @@
 // The lines that a job writes into a lent buffer, put together in fixed memory first. That a length is at most 512 stays a
 // clause: a type for it would ask callers of `refusal_line` to take it apart.
-ghost use Rattle.std.specs.Prelude.{◌≡◌, ℕ, ◌+◌, ◌<◌, ◌≤◌, ◌++◌, length, IfOk, MatchResult};
+ghost use Rattle.std.specs.Prelude.{◌≡◌, ℕ, ◌+◌, ◌<◌, ◌≤◌, ◌++◌, length, if◌then◌else◌, nat_lt, Ok, Err, MatchResult};
+ghost use Rattle.listing.specs.declared.refusal.Reason.TheVariants.{BufferTooShort};
 ghost use Rattle.arrayvec.specs.ArrayString.{array_string_len};
 ghost use Rattle.listing.specs.Reasons.{number_of};
-ghost use Rattle.job.specs.Text.{before, report, refusal, told, left};
+ghost use Rattle.job.specs.Text.{placed, before, report, refusal, told, left};
 
+use crate::text::put;
 use arrayvec::ArrayString;
 use itoa::Buffer;
 use listing::program::Program;
@@ -14,18 +16,24 @@ use machines::placement::Placement;
 // No line or report needs more bytes than this.
 const LEAST_BUFFER: usize = 512;
 
-// Writes the text at the start of the buffer, and answers its length.
-fn put(text: ArrayString<512>, out: &mut [u8]) -> Result<usize, Refusal>
-    ensures value { result ≡ told text.bytes out.old }
-    ensures after { out.new ≡ left text.bytes out.old }
-    ensures limit { MatchResult result (λ n. n ≤ 512) (λ _. length out.old < 512) }
+// Refuses a buffer in which a line or a report may find no room.
+pub(crate) fn long_enough(out: &[u8]) -> Result<(), Refusal>
+    ensures { result ≡ (if nat_lt (length out.now) 512 then Err (record { reason = BufferTooShort; line = 0 }) else Ok tt) }
 {
     if out.len() < LEAST_BUFFER {
         return Err(Reason::BufferTooShort.refusal());
     }
-    let text = text.as_str();
-    out[..text.len()].copy_from_slice(text.as_bytes());
-    Ok(text.len())
+    Ok(())
+}
+
+// Writes the text at the start of the buffer, and answers its length.
+fn put_text(text: ArrayString<512>, out: &mut [u8]) -> usize
+    requires { 512 ≤ length out.old }
+    ensures end { result ≡ length text.bytes }
+    ensures after { out.new ≡ placed out.old 0 text.bytes }
+    ensures limit { result ≤ 512 }
+{
+    put(out, 0, text.as_str().as_bytes())
 }
 
 // `refused`, the number, `line`, the line.
@@ -34,16 +42,18 @@ pub fn refusal_line(refused: Refusal, out: &mut [u8]) -> Result<usize, Refusal>
     ensures after { out.new ≡ left (refusal (number_of refused.reason) refused.line) out.old }
     ensures limit { MatchResult result (λ n. n ≤ 512) (λ _. length out.old < 512) }
 {
-    put(refusal_text(refused), out)
+    long_enough(out)?;
+    Ok(put_text(refusal_text(refused), out))
 }
 
 // The report of a placement.
-pub fn report_lines(program: &Program, places: Placement, out: &mut [u8]) -> Result<usize, Refusal>
-    ensures value { result ≡ told (report program.now places.mask) out.old }
-    ensures after { out.new ≡ left (report program.now places.mask) out.old }
-    ensures limit { IfOk result (λ n. n ≤ 512) }
+pub fn put_report(out: &mut [u8], program: &Program, places: Placement) -> usize
+    requires { 512 ≤ length out.old }
+    ensures end { result ≡ length (report program.now places.mask) }
+    ensures after { out.new ≡ placed out.old 0 (report program.now places.mask) }
+    ensures limit { result ≤ 512 }
 {
-    put(report_text(program, places), out)
+    put_text(report_text(program, places), out)
 }
 
 // Each text is appended by a call that cannot fail: by its contract `write!` may fail even where there is room.

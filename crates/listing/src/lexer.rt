@@ -44,7 +44,7 @@ fn kind_of(byte: u8) -> Kind
     }
 }
 
-// One test each, and one search each by that test: the library's `position` and `all` are the generic search, and each call
+// Tests of a byte, and searches each of one line: the library's `position` and `all` are the generic search, and such a call
 // is proved where it is the whole of a function.
 fn is_comment(byte: u8) -> bool
     ensures { result ≡ comments byte }
@@ -136,7 +136,7 @@ fn token_of(bytes: &[u8], line: u16) -> Token<'_>
 }
 
 impl<'a> Words<'a> {
-    // Takes the first of the words, if any is left.
+    // Takes the first of the words, if any is left. No `Iterator`: nothing goes through all the words of a line.
     pub fn next(&mut self) -> Option<Token<'a>>
         ensures line { self.new.line ≡ self.old.line }
         ensures word { MatchOption result (next_word self.old.rest.now ≡ []) (λ t. Tells t (next_word self.old.rest.now) self.old.line) }
@@ -148,6 +148,7 @@ impl<'a> Words<'a> {
         let bytes = &self.rest[word_start(self.rest).unwrap_or(self.rest.len())..];
         let (word, rest) = bytes.split_at(word_end(bytes).unwrap_or(bytes.len()));
         self.rest = rest;
+        // By `then`, three clauses would each have to open the closure's contract.
         if word.is_empty() {
             None
         } else {

@@ -1,4 +1,5 @@
-// The words of a line, taken one by one by the form that its first word begins, and the values that its numbers have.
+// The words of a line, taken one by one by the form that its first word begins, and the values that its numbers have. Some
+// clauses say apart what the equation beside them implies: what stands above wants only that much of it.
 ghost use Rattle.std.specs.Prelude.{List, Option, None, ◌≡◌, ℕ, ◌+◌, ◌<◌, ◌≤◌, true, [], ◌∷◌, ◌++◌, IfOk, IfErr, IfSome, Some, MatchResult};
 ghost use Rattle.listing.specs.declared.refusal.Reason.TheVariants.{NoForm, NumberOutOfRange};
 ghost use Rattle.listing.specs.Forms.{called, fault, no_form, number as number_says, operand as operand_says, register as register_says, variable as variable_says};
@@ -15,6 +16,8 @@ use crate::code::{Condition, FaultLine, Instruction, Operand, Register, Variable
 use crate::lexer::{Token, Words};
 use crate::refusal::{Reason, Refusal};
 
+// What is written is apart from what is read in `code.rt`: one enum over the type of its numbers would put that type into
+// every clause that speaks of an instruction, in all crates above.
 #[derive(Clone, Copy)]
 pub enum WrittenOperand<'a> {
     Digits(&'a [u8]),
@@ -50,7 +53,8 @@ pub enum Line<'a> {
     Instruction(WrittenInstruction<'a>),
 }
 
-// The first word of an instruction.
+// The first word of an instruction. A rule of the project: it is named first, by a byte pattern, and its operands are taken
+// after.
 #[derive(Clone, Copy)]
 enum Mnemonic {
     Store,
@@ -279,7 +283,7 @@ impl<'a> Words<'a> {
     }
 }
 
-// The number that one or two digits write.
+// The number that one or two digits write. By `parse` a sign would be read as well, and more than two digits.
 fn written(digits: &[u8]) -> Option<u8>
     ensures named { IfSome result (λ n. n ≡ decimal digits.now) }
     ensures value { result ≡ value_of digits.now }
@@ -296,7 +300,7 @@ fn in_range(low: u8, high: u8, digits: &[u8]) -> Option<u8>
     ensures { result ≡ number_read low high digits.entry }
 {
     let n = written(digits)?;
-    if low <= n && n <= high { Some(n) } else { None }
+    (low <= n && n <= high).then_some(n)
 }
 
 // The ranges by their names, so that each pair of numbers stands once.

@@ -11,7 +11,7 @@ use crate::draft::Draft;
 use crate::lexer::{first_line, words_of};
 use crate::program::Program;
 use crate::refusal::{Reason, Refusal};
-use limits::MOST_BYTES;
+use limits::short_enough;
 
 fn read_line(draft: &mut Draft, bytes: &[u8], line: u16) -> Result<(), Refusal>
     ensures declined { IfErr result (Declined line) }
@@ -29,13 +29,13 @@ pub fn read(text: &[u8]) -> Result<Program, Refusal>
     ensures first_wrong { FirstWrong text.now (told code_of result) }
     ensures one_or_other { OneOrOther (told code_of result) }
 {
-    if text.len() > MOST_BYTES {
+    if !short_enough(text.len()) {
         return Err(Reason::TextTooLong.refusal());
     }
     let mut draft = Draft::new();
     let mut rest = text;
     let mut line = 0;
-    // `split` would give one line more after the last line end, and count lines all the same.
+    // By `first_line`, whose promise stands apart: `split_inclusive` leaves each line end in its line, and counts no lines.
     while !rest.is_empty() {
         let (bytes, after) = first_line(rest);
         line += 1;

@@ -2,7 +2,7 @@
 ghost use Rattle.std.specs.Prelude.{◌≡◌};
 ghost use Rattle.listing.specs.Reasons.{number_of};
 
-// The number of a refusal is `reason as u8`; it stands nowhere else.
+// The number of a refusal is `reason as u8`; no other number of it stands in the code.
 #[derive(Clone, Copy, PartialEq, Eq)]
 pub enum Reason {
     TextTooLong = 1,

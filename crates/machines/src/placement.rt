@@ -6,8 +6,8 @@ ghost use Rattle.machines.specs.Places.{has, adding, removing, first_places, fro
 
 use few::Filler;
 
-// A rule of the project: a place stays a `u8` below 32, and an end one of at most 32, by clauses, since a type of their own
-// would ask more of callers. A cast is of a number that fits: `try_from` would answer a `Result` that is never an error.
+// A place stays a `u8` below 32, and an end one of at most 32, by clauses: a type of their own would ask more of callers. A
+// cast is of a number that fits: `try_from` would answer a `Result` that is never an error.
 #[derive(Clone, Copy, PartialEq, Eq, Default)]
 pub struct Placement {
     pub mask: u32,

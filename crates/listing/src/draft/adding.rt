@@ -1,5 +1,6 @@
 // What a line adds to a draft, if it may stand there and there is room for it. The number of the line is handed beside each
-// part: a struct of the two would be made and taken apart at each call.
+// part: a struct of the two would be made and taken apart at each call. The clause `declined` says apart what `adds` implies
+// of a refusal: what stands above wants only that much.
 ghost use Rattle.std.specs.Prelude.{◌≡◌, ◌<◌, true, IfErr, length};
 ghost use Rattle.listing.specs.Drafts.{Adds, progress_of};
 ghost use Rattle.listing.specs.Forms.{means, thread_line, instruction_line, fault_line as fault_says};
@@ -109,10 +110,11 @@ impl Draft {
         self.push_instruction(instruction(written, line)?, line)
     }
 
-    fn add_fault(&mut self, words: Words<'_>, line: u16) -> Result<(), Refusal>
-        ensures declined { words.entry.line ≡ line → IfErr result (Declined line) }
-        ensures adds { words.entry.line ≡ line → Adds (standing (progress_of self.old) line (fault_stands (progress_of self.old)) (fault_read words.entry)) self.new result }
+    fn add_fault(&mut self, words: Words<'_>) -> Result<(), Refusal>
+        ensures declined { IfErr result (Declined words.entry.line) }
+        ensures adds { Adds (standing (progress_of self.old) words.entry.line (fault_stands (progress_of self.old)) (fault_read words.entry)) self.new result }
     {
+        let line = words.line;
         if self.bound.is_none() {
             return Err(Reason::NoForm.at(line));
         }
@@ -128,7 +130,7 @@ impl Draft {
             Line::Bound(digits) => self.add_bound(digits, line),
             Line::Thread => self.add_thread(line),
             Line::Instruction(written) => self.add_instruction(written, line),
-            Line::Fault(words) => self.add_fault(words, line),
+            Line::Fault(words) => self.add_fault(words),
         }
     }
 

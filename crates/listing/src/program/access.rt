@@ -1,5 +1,6 @@
 // What the layers above ask of a program. A cast is of a number that a clause bounds: `try_from` would answer a `Result`
-// that is never an error.
+// that is never an error. A thread's number stays a `u8`, below 4 by clauses, since a type of its own would ask more of
+// callers.
 ghost use Rattle.std.specs.Prelude.{◌≡◌, ℕ, ◌+◌, ◌<◌, ◌≤◌, true, [], length, slice_index_or, OnSome};
 ghost use Rattle.listing.specs.Limits.{all, together};
 ghost use Rattle.listing.specs.Code.{code_of, condition_sound, length_of, fetched, place_of, thread_at, places, lines_of, line_sound};
@@ -69,7 +70,8 @@ impl Program {
         self.first_place(thread) + at
     }
 
-    // The thread that a place lies in; the last one for a place that is not in the program.
+    // The thread that a place lies in; 3 for a place past all of them. As the definition has it: a search over the threads
+    // would be proved by these three cases too.
     pub fn thread_at(&self, place: u8) -> u8
         ensures value { result ≡ thread_at self.now place }
         ensures limit { result < 4 }
