@@ -1,5 +1,4 @@
 -- What a reader owes follows from its answer. Assumes nothing.
-
 use Rattle.std.proofs.Common.{◌≡◌, ℕ, ◌+◌, ◌<◌, ◌≤◌, leb, List, length, Ok, Err, Result, sym, refl, ap, ◌∙◌, subst}
 use Rattle.std.proofs.lemmas.Bool.{le-leb, lt-leb, cond-true, cond-false}
 use Rattle.listing.specs.declared.refusal.Reason.TheVariants.{TextTooLong}
@@ -11,6 +10,7 @@ use Rattle.listing.specs.Words.{lines, line_of, rest_of}
 use Rattle.listing.proofs.Exact.{exactly}
 use Rattle.listing.proofs.FirstWrong.{first_wrong}
 use Rattle.listing.proofs.NextLine.{next_line, no_lines}
+use Rattle.listing.proofs.Results.{onto}
 
 module _ (t : List ℕ) (r : Result Code Refusal) (e : r ≡ reading t) where
   pub exactly_read : Exactly t r
@@ -27,16 +27,13 @@ pub after_all : (t : List ℕ) (r : Result Progress Refusal) → length t ≤ 40
 unfolding reading
 after_all t r few e = sym (cond-true (leb (length t) 4096) _ _ (le-leb (length t) 4096 few) ∙ ap after_lines e)
 
-abbrev onward : ℕ → List (List ℕ) → Result Progress Refusal → Result Progress Refusal
-onward n ls r = elim r [ Ok q ↦ read_lines q (n + 1) ls | Err e ↦ Err e ]
-
 -- a text that is not empty, by its first line
 module _ (p : Progress) (n : ℕ) (t : List ℕ) (some : 0 < length t) where
   pub next_fine : (q : Progress) → line p n (line_of t) ≡ Ok q → read_lines p n (lines t) ≡ read_lines q (n + 1) (lines (rest_of t))
-  next_fine q fine = ap (read_lines p n) (next_line t some) ∙ ap (onward n (lines (rest_of t))) fine
+  next_fine q fine = ap (read_lines p n) (next_line t some) ∙ ap (onto (λ q. read_lines q (n + 1) (lines (rest_of t)))) fine
 
   pub next_refused : (e : Refusal) → line p n (line_of t) ≡ Err e → read_lines p n (lines t) ≡ Err e
-  next_refused e wrong = ap (read_lines p n) (next_line t some) ∙ ap (onward n (lines (rest_of t))) wrong
+  next_refused e wrong = ap (read_lines p n) (next_line t some) ∙ ap (onto (λ q. read_lines q (n + 1) (lines (rest_of t)))) wrong
 
 pub none_left : (p : Progress) (n : ℕ) (t : List ℕ) → length t ≡ 0 → read_lines p n (lines t) ≡ Ok p
 none_left p n t none = rw (no_lines t none) refl

@@ -18,10 +18,6 @@ module _ {X : Type 0} (test : X → Bool) where
   ended (n ∷ ns) (x ∷ xs) h = elim h [ inl e ↦ absurd (omega arith) | inr e ↦ absurd (omega arith) ]
 
 -- the same for the jumps of threads
-pub thread_passed : (mss nss : List (List ℕ)) (ns : List ℕ) (us ts : List (List Instruction)) (t : List Instruction) → mss ≡ ns ∷ nss → us ≡ t ∷ ts
-    → first_failing (jump_within (length t)) ns t ≡ None → jump_failing mss us ≡ jump_failing nss ts
-thread_passed mss nss ns us ts t e f h = rw (e, f, h) refl
-
 pub thread_failed : (mss nss : List (List ℕ)) (ns : List ℕ) (us ts : List (List Instruction)) (t : List Instruction) (n : ℕ) → mss ≡ ns ∷ nss → us ≡ t ∷ ts
     → first_failing (jump_within (length t)) ns t ≡ Some n → jump_failing mss us ≡ Some n
 thread_failed mss nss ns us ts t n e f h = rw (e, f, h) refl

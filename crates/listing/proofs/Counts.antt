@@ -7,8 +7,11 @@ use Rattle.listing.specs.Reading.{some}
 pub is_between : (low high n : ℕ) → low ≤ n → n ≤ high → between low high n ≡ true
 is_between low high n l h = and_from (leb low n) (leb n high) (le-leb low n l) (le-leb n high h)
 
+pub high_fits : (low high n : ℕ) → between low high n ≡ true → leb n high ≡ true
+high_fits low high n h = (and_parts (leb low n) (leb n high) h).1
+
 pub at_most : (low high n : ℕ) → between low high n ≡ true → n ≤ high
-at_most low high n h = leb-true n high (and_parts (leb low n) (leb n high) h).1
+at_most low high n h = leb-true n high (high_fits low high n h)
 
 pub has_some : {X : Type 0} (xs : List X) (high : ℕ) → between 1 high (length xs) ≡ true → some xs ≡ true
 has_some [] high h = cc

@@ -11,15 +11,6 @@ module _ {X Y : Type 0} where
   pub lined_many : (ls : List (List X)) (ts : List (List Y)) → map length ls ≡ map length ts → length ls ≡ length ts
   lined_many ls ts h = sym (length-map ls length) ∙ (ap length h ∙ length-map ts length)
 
-  pub lined_last : (ls : List (List X)) (ts : List (List Y)) → map length ls ≡ map length ts → last_length ls ≡ last_length ts
-  lined_last [] [] h = refl
-  lined_last [] (t ∷ ts) h = cc
-  lined_last (l ∷ ls) [] h = cc
-  lined_last (l ∷ []) (t ∷ []) h = cc
-  lined_last (l ∷ []) (t ∷ u ∷ ts) h = cc
-  lined_last (l ∷ k ∷ ls) (t ∷ []) h = cc
-  lined_last (l ∷ k ∷ ls) (t ∷ u ∷ ts) h = let f : map length (k ∷ ls) ≡ map length (u ∷ ts) = cc in lined_last (k ∷ ls) (u ∷ ts) f
-
   pub lined_grown : (ls : List (List X)) (ts : List (List Y)) (x : X) (y : Y) → map length ls ≡ map length ts → map length (grown ls x) ≡ map length (grown ts y)
   lined_grown [] [] x y h = refl
   lined_grown [] (t ∷ ts) x y h = cc

@@ -1,5 +1,5 @@
 -- A text reads as a program exactly when it spells it, and each program within the limits is read from some text. Assumes nothing.
-use Rattle.std.proofs.Common.{◌≡◌, ℕ, ◌≤◌, leb, List, length, Ok, Err, Result, sym, refl, ap, ◌∙◌, arith}
+use Rattle.std.proofs.Common.{◌≡◌, ℕ, ◌≤◌, leb, List, length, Ok, Err, Result, sym, refl, ap, ◌∙◌}
 use Rattle.std.proofs.lemmas.Bool.{leb-true, le-leb, cond-true}
 use Rattle.listing.specs.declared.refusal.Refusal.{Refusal}
 use Rattle.listing.specs.Code.{Code, code_of}
@@ -22,7 +22,7 @@ record Passed (t : List ℕ) (c : Code) : Type 0 where
 
 passed_from : (t : List ℕ) (c : Code) (r : Result Progress Refusal) → read_lines nothing 1 (lines t) ≡ r → after_lines r ≡ Ok c → Passed t c
 passed_from t c (Ok p) e h = record { progress = p; lines_pass = e; end_passes = h }
-passed_from t c (Err x) e h = absurd (let z : ◌≡◌ {A = ℕ} 0 1 = cc in omega arith)
+passed_from t c (Err x) e h = cc
 
 pub read_spells : (t : List ℕ) (c : Code) → reading t ≡ Ok c → (length t ≤ 4096) × Spells t c
 unfolding reading

@@ -10,11 +10,11 @@ use Rattle.listing.proofs.Pairs.{AsLong}
 
 pub or_else_none : (o u : Option ℕ) → or_else o u ≡ None → (o ≡ None) × (u ≡ None)
 or_else_none None u h = (refl, h)
-or_else_none (Some n) u h = (cc, cc)
+or_else_none (Some n) u h = cc
 
 cond_none : (b : Bool) (o : Option ℕ) (n : ℕ) → cond b o (Some n) ≡ None → (b ≡ true) × (o ≡ None)
 cond_none true o n h = (refl, h)
-cond_none false o n h = (cc, cc)
+cond_none false o n h = cc
 
 module _ {X : Type 0} (test : X → Bool) where
   pub all_pass_within : (ns : List ℕ) (xs : List X) → length xs ≤ length ns → first_failing test ns xs ≡ None → all test xs ≡ true

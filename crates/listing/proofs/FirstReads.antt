@@ -3,12 +3,12 @@ use Rattle.std.proofs.Common.{◌≡◌, ℕ, true, false, cond, List, [], Some,
 use Rattle.listing.specs.declared.code.Operand.TheVariants as operands
 use Rattle.listing.specs.declared.lexer.Token.{Token}
 use Rattle.listing.specs.declared.lexer.Token.TheVariants.{Word, Number}
-use Rattle.listing.specs.Forms.{Says, no_form, out_of_range, means, apply, called, ranged, number, operand, register, variable, first}
+use Rattle.listing.specs.Forms.{no_form, out_of_range, means, apply, called, ranged, number, operand, register, first}
 use Rattle.listing.specs.Limits.{all, between}
 use Rattle.listing.specs.Names.{register_of, value_of}
 use Rattle.listing.specs.Taking.{Comes, in_range, lift, said}
 use Rattle.listing.specs.Words.{is_digit}
-use Rattle.listing.proofs.Spelled.{digits_no_variable, digits_no_register}
+use Rattle.listing.proofs.SaidTogether.{apply_said}
 
 ranged_said : (low high : ℕ) (o : Option ℕ) → ranged low high o ≡ said (in_range low high o)
 ranged_said low high None = refl
@@ -22,30 +22,15 @@ pub number_word : (low high : ℕ) (w : List ℕ) → all is_digit w ≡ false �
 unfolding number
 number_word low high w h = ap (λ t. cond t (ranged low high (value_of w)) no_form) h
 
-value_said : (o : Option ℕ) → apply (means operands.Value) (said o) ≡ said (lift (Some (λ x. operands.Value x)) o)
-value_said None = refl
-value_said (Some n) = refl
-
 pub operand_digits : (w : List ℕ) → all is_digit w ≡ true → operand w ≡ said (lift (Some (λ x. operands.Value x)) (in_range 0 15 (value_of w)))
 unfolding operand
 operand_digits w h =
     ap (λ t. cond t (apply (means operands.Value) (number 0 15 w)) (apply (means operands.Register) (register w))) h
-    ∙ ap (apply (means operands.Value)) (number_digits 0 15 w h) ∙ value_said (in_range 0 15 (value_of w))
+    ∙ ap (apply (means operands.Value)) (number_digits 0 15 w h) ∙ apply_said (Some operands.Value) (in_range 0 15 (value_of w))
 
 pub operand_word : (w : List ℕ) → all is_digit w ≡ false → operand w ≡ apply (means operands.Register) (called (register_of w))
 unfolding operand
 operand_word w h = ap (λ t. cond t (apply (means operands.Value) (number 0 15 w)) (apply (means operands.Register) (register w))) h
-
-no_name_taken : {X : Type 0} (reads : List ℕ → Says X) → ((w : List ℕ) → all is_digit w ≡ true → reads w ≡ no_form) → (r : Option Token) (ws vs : List (List ℕ)) (n : ℕ) → MatchOption r (ws ≡ []) (λ t. Comes t ws vs n) → ((bytes : Bor (List ℕ)) (at : ℕ) → r ≡ Some (Word bytes at) → ⊥) → first reads ws ≡ no_form
-no_name_taken reads digits None ws vs n h none = ap (first reads) h
-no_name_taken reads digits (Some (Word bytes at)) ws vs n h none = absurd (none bytes at refl)
-no_name_taken reads digits (Some (Number bytes at)) ws vs n h none = ap (first reads) h.0 ∙ digits bytes.now h.1.1
-
-pub no_variable_taken : (r : Option Token) (ws vs : List (List ℕ)) (n : ℕ) → MatchOption r (ws ≡ []) (λ t. Comes t ws vs n) → ((bytes : Bor (List ℕ)) (at : ℕ) → r ≡ Some (Word bytes at) → ⊥) → first variable ws ≡ no_form
-no_variable_taken r ws vs n h none = no_name_taken variable (λ w d. ap called (digits_no_variable w d)) r ws vs n h none
-
-pub no_register_taken : (r : Option Token) (ws vs : List (List ℕ)) (n : ℕ) → MatchOption r (ws ≡ []) (λ t. Comes t ws vs n) → ((bytes : Bor (List ℕ)) (at : ℕ) → r ≡ Some (Word bytes at) → ⊥) → first register ws ≡ no_form
-no_register_taken r ws vs n h none = no_name_taken register (λ w d. ap called (digits_no_register w d)) r ws vs n h none
 
 pub no_number_taken : (low high : ℕ) (r : Option Token) (ws vs : List (List ℕ)) (n : ℕ) → MatchOption r (ws ≡ []) (λ t. Comes t ws vs n) → ((bytes : Bor (List ℕ)) (at : ℕ) → r ≡ Some (Number bytes at) → ⊥) → first (number low high) ws ≡ no_form
 no_number_taken low high None ws vs n h none = ap (first (number low high)) h

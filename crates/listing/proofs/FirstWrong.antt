@@ -18,8 +18,8 @@ use Rattle.listing.proofs.Results.{refused, onto}
 use Rattle.listing.proofs.Sound.{Sound, nothing_sound, no_thread, read_lines_sound}
 
 pub one_or_other : (r : Result Code Refusal) → OneOrOther r
-one_or_other (Ok c) = (inl (c, refl), λ d e h k. let z : ◌≡◌ {A = ℕ} 0 1 = cc in omega arith)
-one_or_other (Err e) = (inr (e, refl), λ c d h k. let z : ◌≡◌ {A = ℕ} 0 1 = cc in omega arith)
+one_or_other (Ok c) = (inl (c, refl), λ d e h k. cc)
+one_or_other (Err e) = (inr (e, refl), λ c d h k. cc)
 
 abbrev LineBreaks : Progress → ℕ → List ℕ → Refusal → Type 0
 LineBreaks p n bs e = (why : Reason) × ((e ≡ refusal why n) × FirstBroken why p bs)
@@ -33,14 +33,14 @@ held_breaks p n no_form e h a b c = a (cc) refl
 held_breaks p n out_of_range e h a b c = b (cc) refl refl
 held_breaks p n (means l) e h a b c =
     refused (room p l) (Ok (with_line p n l)) (refusal TooMany n) e h
-    (λ fits k. let z : ◌≡◌ {A = ℕ} 0 1 = cc in absurd (omega arith))
+    (λ fits k. cc)
     (λ full is. c is refl refl (not_from_false (room p l) full))
 
 worded_breaks : {W : Type 0} (p : Progress) (n : ℕ) (ws : List (List ℕ)) (e : Refusal) → worded p n ws ≡ Err e
     → (e ≡ refusal NoForm n → formless p ws ≡ true → W)
     → (e ≡ refusal NumberOutOfRange n → formless p ws ≡ false → unranged ws ≡ true → W)
     → (e ≡ refusal TooMany n → formless p ws ≡ false → unranged ws ≡ false → crowded p ws ≡ true → W) → W
-worded_breaks p n [] e h a b c = let z : ◌≡◌ {A = ℕ} 0 1 = cc in absurd (omega arith)
+worded_breaks p n [] e h a b c = cc
 worded_breaks p n (w ∷ ws) e h a b c =
     refused (may_stand p w) (held p n (form w ws)) (refusal NoForm n) e h
     (λ stands k.
@@ -74,7 +74,7 @@ record Broken (p : Progress) (n : ℕ) (ls : List (List ℕ)) (e : Refusal) : Ty
   breaks : FirstBroken why left here
 
 read_broken : (p : Progress) (n : ℕ) (ls : List (List ℕ)) (e : Refusal) → read_lines p n ls ≡ Err e → Broken p n ls e
-read_broken p n [] e h = let z : ◌≡◌ {A = ℕ} 0 1 = cc in absurd (omega arith)
+read_broken p n [] e h = cc
 read_broken p n (l ∷ ls) e h =
     elim (line p n l) as (λ r. line p n l ≡ r → onto (λ o. read_lines o (n + 1) ls) r ≡ Err e → Broken p n (l ∷ ls) e) [
       | Ok o ↦ λ fine rest.
@@ -107,8 +107,8 @@ read_broken p n (l ∷ ls) e h =
     ] refl h
 
 first_failing_is : {X : Type 0} (test : X → Bool) (ns : List ℕ) (xs : List X) (n : ℕ) → first_failing test ns xs ≡ Some n → FirstFailing test ns xs n
-first_failing_is test [] xs n h = let z : ◌≡◌ {A = ℕ} 0 1 = cc in absurd (omega arith)
-first_failing_is test (m ∷ ns) [] n h = let z : ◌≡◌ {A = ℕ} 0 1 = cc in absurd (omega arith)
+first_failing_is test [] xs n h = cc
+first_failing_is test (m ∷ ns) [] n h = cc
 first_failing_is test (m ∷ ns) (x ∷ xs) n h =
     elim (test x) as (λ r. test x ≡ r → cond r (first_failing test ns xs) (Some m) ≡ Some n → FirstFailing test (m ∷ ns) (x ∷ xs) n) [
       | true ↦ λ passes k.
@@ -130,8 +130,8 @@ abbrev holding : Progress → List (List ℕ) → List (List Instruction) → Pr
 holding p nss ts = record { bound = p.bound; threads = ts; faults = p.faults; thread_lines = p.thread_lines; instruction_lines = nss; fault_lines = p.fault_lines }
 
 jump_failing_is : (p : Progress) (nss : List (List ℕ)) (ts : List (List Instruction)) (n : ℕ) → Pairwise AsLong nss ts → jump_failing nss ts ≡ Some n → FirstJumpAstray (holding p nss ts) n
-jump_failing_is p [] ts n s h = let z : ◌≡◌ {A = ℕ} 0 1 = cc in absurd (omega arith)
-jump_failing_is p (ns ∷ nss) [] n s h = let z : ◌≡◌ {A = ℕ} 0 1 = cc in absurd (omega arith)
+jump_failing_is p [] ts n s h = cc
+jump_failing_is p (ns ∷ nss) [] n s h = cc
 jump_failing_is p (ns ∷ nss) (t ∷ ts) n s h =
     elim (first_failing (jump_within (length t)) ns t) as (λ o. first_failing (jump_within (length t)) ns t ≡ o → or_else o (jump_failing nss ts) ≡ Some n → FirstJumpAstray (holding p (ns ∷ nss) (t ∷ ts)) n) [
       | None ↦ λ fine k.

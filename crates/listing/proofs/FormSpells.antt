@@ -14,6 +14,7 @@ use Rattle.listing.specs.Limits.{all, between}
 use Rattle.listing.specs.Names.{same_word, variable_word, register_word}
 use Rattle.listing.specs.Spelling.{Item, name, number, Spelled, Pairwise, instruction_items, condition_items, fault_row}
 use Rattle.listing.specs.Values.{operand_fits, instruction_fits, condition_fits}
+use Rattle.listing.proofs.FormRows.{rest_shorter}
 use Rattle.listing.proofs.WordSpells.{Only, only_formless, only_meant, only_map, only_apply, same_word_eq, variable_reads, register_reads, number_reads, upto_reads, operand_reads}
 use Rattle.listing.proofs.WordsInTurn.{one_only, one_every, two_only, two_every, three_only, three_every, four_only, four_every, ended_only, ended_every, word_only, whole_only}
 
@@ -90,10 +91,6 @@ conditions_only (suc n) (k ∷ ws) =
 
 more_every : (c : Condition) (cs : List Condition) (s : Says Condition) (t : Says (List Condition)) → s ≡ means c → t ≡ means cs → more s t ≡ means (c ∷ cs)
 more_every c cs s t h k = rw (h, k) refl
-
-rest_shorter : (ws : List (List ℕ)) → length (rest ws) ≤ length ws
-rest_shorter [] = omega arith
-rest_shorter (w ∷ ws) = omega arith
 
 -- the number of conditions that may follow is at least the number of words
 named_first : (Q : ℕ → List (List ℕ) → Type 0) (v : List ℕ) (is : List Item) (n : ℕ) (ws : List (List ℕ)) → length ws ≤ n → Pairwise Spelled (name v ∷ is) ws

@@ -39,28 +39,21 @@ prefixed_out false cs no_form = refl
 prefixed_out false cs out_of_range = refl
 prefixed_out false cs (means xs) = refl
 
-prefixed_formless : (ranged : Bool) (cs : List Condition) → prefixed ranged cs no_form ≡ no_form
-prefixed_formless true cs = refl
-prefixed_formless false cs = refl
-
 -- a condition is one more than none
 more_some : (x : Says Condition) (xs : Says (List Condition)) → more x xs ≡ means [] → ⊥
-more_some no_form xs h = let z : ◌≡◌ {A = ℕ} 0 1 = cc in omega arith
-more_some out_of_range no_form h = let z : ◌≡◌ {A = ℕ} 0 1 = cc in omega arith
-more_some out_of_range out_of_range h = let z : ◌≡◌ {A = ℕ} 0 1 = cc in omega arith
-more_some out_of_range (means xs) h = let z : ◌≡◌ {A = ℕ} 0 1 = cc in omega arith
-more_some (means x) no_form h = let z : ◌≡◌ {A = ℕ} 0 1 = cc in omega arith
-more_some (means x) out_of_range h = let z : ◌≡◌ {A = ℕ} 0 1 = cc in omega arith
-more_some (means x) (means xs) h = let z : ◌≡◌ {A = ℕ} 0 1 = cc in omega arith
-
-formless_not : ◌≡◌ {A = Says (List Condition)} no_form (means []) → ⊥
-formless_not h = let z : ◌≡◌ {A = ℕ} 0 1 = cc in omega arith
+more_some no_form xs h = cc
+more_some out_of_range no_form h = cc
+more_some out_of_range out_of_range h = cc
+more_some out_of_range (means xs) h = cc
+more_some (means x) no_form h = cc
+more_some (means x) out_of_range h = cc
+more_some (means x) (means xs) h = cc
 
 one_of : (a b c : Bool) (x y z : Says (List Condition)) → (x ≡ means [] → ⊥) → (y ≡ means [] → ⊥) → (z ≡ means [] → ⊥) → cond a x (cond b y (cond c z no_form)) ≡ means [] → ⊥
 one_of true b c x y z no-x no-y no-z h = no-x h
 one_of false true c x y z no-x no-y no-z h = no-y h
 one_of false false true x y z no-x no-y no-z h = no-z h
-one_of false false false x y z no-x no-y no-z h = formless_not h
+one_of false false false x y z no-x no-y no-z h = cc
 
 none_said : (ws : List (List ℕ)) → all_conditions ws ≡ means [] → ws ≡ []
 unfolding conditions
@@ -91,7 +84,7 @@ pub formless_before : (w v : Words) (c : WrittenCondition) → TookCondition w v
 formless_before w v c took none = took.1.1 ∙ ap (more (said (condition_read c))) none ∙ more_formless (said (condition_read c))
 
 pub formless_fault : (ws : List (List ℕ)) → all_conditions ws ≡ no_form → fault ws ≡ no_form
-formless_fault ws none = fault_is ws no_form (λ e. let z : ◌≡◌ {A = ℕ} 0 1 = cc in omega arith) none
+formless_fault ws none = fault_is ws no_form (λ e. cc) none
 
 -- what is wrong with the conditions so far, whether all are in range, and how many there are
 pub data Found : Option Reason → Bool → ℕ → Type 0 where
@@ -118,13 +111,13 @@ found_past wrong ranged n m many e (nothing_wrong h) = crowded (omega arith)
 found_past wrong ranged n m many e (crowded h) = crowded (omega arith)
 found_past wrong ranged n m many e unranged = unranged
 
-module _ (ws vs us : List (List ℕ)) (line : List Condition) (wrong : Option Reason) (g : Gathering ws vs line wrong) where
-  taken_length : length line ≡ min 6 (length g.so_far)
-  taken_length = ap length g.held ∙ length-take 6 g.so_far
+taken_length : (ws vs : List (List ℕ)) (line : List Condition) (wrong : Option Reason) (g : Gathering ws vs line wrong) → length line ≡ min 6 (length g.so_far)
+taken_length ws vs line wrong g = ap length g.held ∙ length-take 6 g.so_far
 
+module _ (ws vs us : List (List ℕ)) (line : List Condition) (wrong : Option Reason) (g : Gathering ws vs line wrong) where
   pub gather_kept : (c : Condition) (longer : List Condition) → all_conditions vs ≡ more (means c) (all_conditions us) → length line < 6 → longer ≡ line ++ c ∷ [] → Gathering ws us longer wrong
   gather_kept c longer says few is =
-      let short : length g.so_far < 6 = omega (arith, taken_length) in
+      let short : length g.so_far < 6 = omega (arith, taken_length ws vs line wrong g) in
       let pushed = length_push g.so_far c in
       record {
         so_far = g.so_far ++ c ∷ [];
@@ -138,7 +131,7 @@ module _ (ws vs us : List (List ℕ)) (line : List Condition) (wrong : Option Re
 
   pub gather_past : (c : Condition) → all_conditions vs ≡ more (means c) (all_conditions us) → 6 ≤ length line → Gathering ws us line (option_or wrong (Some TooMany))
   gather_past c says full =
-      let long : 6 ≤ length g.so_far = omega (arith, taken_length) in
+      let long : 6 ≤ length g.so_far = omega (arith, taken_length ws vs line wrong g) in
       record {
         so_far = g.so_far ++ c ∷ [];
         ranged = g.ranged;
@@ -156,11 +149,6 @@ module _ (ws vs us : List (List ℕ)) (line : List Condition) (wrong : Option Re
         held = g.held;
         found = unranged;
       }
-
-  pub gather_formless : all_conditions vs ≡ no_form → fault ws ≡ no_form
-  gather_formless none =
-      fault_is ws no_form (λ e. let z : ◌≡◌ {A = ℕ} 0 1 = cc in omega arith)
-      (g.whole ∙ ap (prefixed g.ranged g.so_far) none ∙ prefixed_formless g.ranged g.so_far)
 
 pub gather_start : (ws : List (List ℕ)) (line : List Condition) → line ≡ [] → Gathering ws ws line None
 gather_start ws line none = record { so_far = []; ranged = true; whole = prefixed_none (all_conditions ws); held = none; found = nothing_wrong (omega arith) }
@@ -185,7 +173,7 @@ module _ (ws : List (List ℕ)) (line : List Condition) where
     where
       not_empty : (cs : List Condition) → 0 < length cs → means cs ≡ means [] → ⊥
       not_empty [] h e = omega arith
-      not_empty (c ∷ cs) h e = let z : ◌≡◌ {A = ℕ} 0 1 = cc in omega arith
+      not_empty (c ∷ cs) h e = cc
 
   pub wrong_end : (n : ℕ) (why : Reason) → Gathering ws [] line (Some why) → fitted n (fault ws) ≡ Err (refusal why n)
   wrong_end n why g = by g.ranged (Some why) (length g.so_far) refl refl refl g.found
@@ -197,7 +185,7 @@ module _ (ws : List (List ℕ)) (line : List Condition) where
           rw is (ap (fitted n) (some_end (Some why) g (sym e) (omega arith)) ∙ cond-false (leb (length g.so_far) 6) _ _ (lt-leb (length g.so_far) 6 (omega arith)))
       by b o m e f k unranged =
           let is : why ≡ NumberOutOfRange = cc in
-          rw is (ap (fitted n) (fault_is ws out_of_range (λ z. let y : ◌≡◌ {A = ℕ} 0 1 = cc in omega arith) (at_end (Some why) g ∙ ap (λ b. cond b (means g.so_far) out_of_range) (sym e))))
+          rw is (ap (fitted n) (fault_is ws out_of_range (λ z. cc) (at_end (Some why) g ∙ ap (λ b. cond b (means g.so_far) out_of_range) (sym e))))
 
   fine : (o : Option Reason) (b : Bool) (m : ℕ) → o ≡ None → Found o b m → (b ≡ true) × (m ≤ 6)
   fine o b m e (nothing_wrong h) = (refl, h)
@@ -207,15 +195,15 @@ module _ (ws : List (List ℕ)) (line : List Condition) where
   pub none_end : Gathering ws [] line None → length line ≡ 0 → fault ws ≡ no_form
   none_end g none =
       let fit = fine None g.ranged (length g.so_far) refl g.found in
-      let empty : length g.so_far ≡ 0 = omega (arith, ap length g.held ∙ length-take 6 g.so_far) in
+      let empty : length g.so_far ≡ 0 = omega (arith, taken_length ws [] line None g) in
       fault_none ws (at_end None g ∙ ap (λ b. cond b (means g.so_far) out_of_range) fit.0 ∙ ap means (nil_from_length g.so_far empty))
 
   pub granted_end : (n : ℕ) → Gathering ws [] line None → 0 < length line → fitted n (fault ws) ≡ Ok line
   granted_end n g some =
       let fit = fine None g.ranged (length g.so_far) refl g.found in
-      let filled : 0 < length g.so_far = omega (arith, ap length g.held ∙ length-take 6 g.so_far) in
+      let filled : 0 < length g.so_far = omega (arith, taken_length ws [] line None g) in
       ap (fitted n) (some_end None g fit.0 filled) ∙ cond-true (leb (length g.so_far) 6) _ _ (le-leb (length g.so_far) 6 fit.1)
       ∙ ap Ok (sym (g.held ∙ take_all 6 g.so_far fit.1))
 
   pub few_held : Gathering ws [] line None → length line ≤ 6
-  few_held g = omega (arith, ap length g.held ∙ length-take 6 g.so_far)
+  few_held g = omega (arith, taken_length ws [] line None g)

@@ -1,9 +1,8 @@
 -- What `all` says of the parts of a list. Assumes nothing.
-use Rattle.std.proofs.Common.{◌≡◌, ℕ, zero, suc, ◌+◌, ◌<◌, ◌≤◌, Bool, true, false, List, [], ◌∷◌, ◌++◌, length, get_or, take, refl, subst, arith}
+use Rattle.std.proofs.Common.{◌≡◌, Bool, true, List, [], ◌∷◌, ◌++◌, refl}
 use Rattle.std.specs.List.{AllByRecursion as All}
 use Rattle.listing.proofs.Recursive as elements
-use Rattle.std.proofs.lemmas.List.{take_all}
-use Rattle.std.proofs.lemmas.Bool.{and_parts, and_from, and_left, and_right}
+use Rattle.std.proofs.lemmas.Bool.{and_parts, and_from}
 use Rattle.listing.specs.Limits.{all}
 
 module _ {X : Type 0} (f : X → Bool) where
@@ -17,17 +16,6 @@ module _ {X : Type 0} (f : X → Bool) where
 
   pub all_push : (xs : List X) (x : X) → all f xs ≡ true → f x ≡ true → all f (xs ++ x ∷ []) ≡ true
   all_push xs x h k = all_from_each (xs ++ x ∷ []) (elements.all_push (λ x. f x ≡ true) xs x (each xs h) k)
-
-  pub all_more : (xs : List X) (i : ℕ) (d : X) → i < length xs → all f (take i xs) ≡ true → f (get_or xs i d) ≡ true → all f (take (i + 1) xs) ≡ true
-  all_more xs i d l h k = all_from_each (take (i + 1) xs) (elements.all_more (λ x. f x ≡ true) xs i d l (each (take i xs) h) k)
-
-  pub all_whole : (xs : List X) (n : ℕ) → length xs ≤ n → all f (take n xs) ≡ true → all f xs ≡ true
-  all_whole xs n l h = subst (λ ys. all f ys ≡ true) (take_all n xs l) h
-
-  pub all_fails : (xs : List X) (i : ℕ) (d : X) → i < length xs → f (get_or xs i d) ≡ false → all f xs ≡ false
-  all_fails [] i d l h = absurd (omega arith)
-  all_fails (x ∷ xs) zero d l h = and_left (f x) (all f xs) h
-  all_fails (x ∷ xs) (suc i) d l h = and_right (f x) (all f xs) (all_fails xs i d (omega arith) h)
 
 -- two tests that give a third
 pub all_join : {X : Type 0} (f g h : X → Bool) → ((x : X) → f x ≡ true → g x ≡ true → h x ≡ true) → (xs : List X) → all f xs ≡ true → all g xs ≡ true → all h xs ≡ true

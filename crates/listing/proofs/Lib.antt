@@ -1,6 +1,5 @@
 pub mod Answered
 pub mod ByWords
-pub mod ByteKinds
 pub mod Checking
 pub mod Counts
 pub mod Cuts

@@ -1,5 +1,5 @@
 -- What a line that is taken says, when a line is taken, and what lines that are taken keep. Assumes nothing.
-use Rattle.std.proofs.Common.{◌≡◌, ℕ, ◌+◌, Bool, true, List, [], ◌∷◌, ◌++◌, Ok, sym, refl, ap, ◌∙◌, subst, arith}
+use Rattle.std.proofs.Common.{◌≡◌, ℕ, ◌+◌, Bool, true, List, [], ◌∷◌, ◌++◌, Ok, sym, refl, ap, ◌∙◌, subst}
 use Rattle.std.proofs.lemmas.List.{append-nil, append_assoc}
 use Rattle.listing.specs.declared.code.Instruction.{Instruction}
 use Rattle.listing.specs.declared.code.Instruction.TheVariants as instruction
@@ -46,8 +46,8 @@ pub record Taken (p : Progress) (n : ℕ) (ws : List (List ℕ)) (q : Progress) 
   pub is : q ≡ with_line p n said
 
 held_taken : (p q : Progress) (n : ℕ) (s : Says Line) → held p n s ≡ Ok q → (l : Line) × (s ≡ means l) × (room p l ≡ true) × (q ≡ with_line p n l)
-held_taken p q n no_form h = let z : ◌≡◌ {A = ℕ} 0 1 = cc in absurd (omega arith)
-held_taken p q n out_of_range h = let z : ◌≡◌ {A = ℕ} 0 1 = cc in absurd (omega arith)
+held_taken p q n no_form h = cc
+held_taken p q n out_of_range h = cc
 held_taken p q n (means l) h =
     let t = passed (room p l) (Ok (with_line p n l)) _ q h in
     let same = t.1 in

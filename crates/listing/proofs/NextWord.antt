@@ -55,8 +55,8 @@ comes (Number bytes at) w ws vs n h e = (e ∙ ap (λ v. v ∷ vs) (sym h.0), (h
 -- the first of a line's words, as a word or as a number
 pub word_first : (t : Token) (bytes : Bor (List ℕ)) (at n : ℕ) (ws vs : List (List ℕ)) → t ≡ Word bytes at → Comes t ws vs n → (ws ≡ bytes.now ∷ vs) × (all is_digit bytes.now ≡ false)
 word_first (Word b a) bytes at n ws vs e h = let same : b ≡ bytes = cc in (h.0 ∙ ap (λ x. x.now ∷ vs) same, subst (λ x. all is_digit x.now ≡ false) same h.1.1)
-word_first (Number b a) bytes at n ws vs e h = absurd (let z : ◌≡◌ {A = ℕ} 0 1 = cc in omega arith)
+word_first (Number b a) bytes at n ws vs e h = cc
 
 pub number_first : (t : Token) (bytes : Bor (List ℕ)) (at n : ℕ) (ws vs : List (List ℕ)) → t ≡ Number bytes at → Comes t ws vs n → (ws ≡ bytes.now ∷ vs) × (all is_digit bytes.now ≡ true)
-number_first (Word b a) bytes at n ws vs e h = absurd (let z : ◌≡◌ {A = ℕ} 0 1 = cc in omega arith)
+number_first (Word b a) bytes at n ws vs e h = cc
 number_first (Number b a) bytes at n ws vs e h = let same : b ≡ bytes = cc in (h.0 ∙ ap (λ x. x.now ∷ vs) same, subst (λ x. all is_digit x.now ≡ true) same h.1.1)

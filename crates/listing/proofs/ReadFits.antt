@@ -1,7 +1,7 @@
 -- The values that were read from a line are those written there, and fit. Assumes nothing.
-use Rattle.std.proofs.Common.{◌≡◌, ℕ, ◌+◌, ◌-◌, ◌*◌, Bool, true, false, cond, ◌&&◌, leb, List, [], ◌∷◌, IfSome, Some, None, Ok, Err, Option, Result, MatchResult, refl, ap, ap₂, Bor}
+use Rattle.std.proofs.Common.{◌≡◌, ℕ, ◌+◌, ◌-◌, ◌*◌, Bool, true, false, cond, ◌&&◌, List, [], ◌∷◌, IfSome, Some, None, Ok, Err, Option, Result, MatchResult, refl, ap, ap₂, Bor}
 use Rattle.std.proofs.lemmas.Option.{MatchOption-at_some}
-use Rattle.std.proofs.lemmas.Bool.{and_parts, and_from}
+use Rattle.std.proofs.lemmas.Bool.{and_from}
 use Rattle.listing.specs.declared.code.Condition.{Condition}
 use Rattle.listing.specs.declared.code.Condition.TheVariants as conditions
 use Rattle.listing.specs.declared.code.Instruction.{Instruction}
@@ -22,6 +22,7 @@ use Rattle.listing.specs.Names.{condition_of, decimal, instruction_of, operand_o
 use Rattle.listing.specs.Taking.{Valued, in_range, lift, number_read, operand_read, instruction_read, condition_read}
 use Rattle.listing.specs.Words.{is_digit}
 use Rattle.listing.specs.Values.{operand_fits, instruction_fits, condition_fits}
+use Rattle.listing.proofs.Counts.{high_fits}
 
 -- a number that is read is the one that the digits write, and lies in its range
 value_is : (ds : List ℕ) → IfSome (value_of ds) (λ n. n ≡ decimal ds)
@@ -62,9 +63,6 @@ lift_two : {W X Y : Type 0} (N : W → Type 0) (P : X → Type 0) (Q : Y → Typ
 lift_two N P Q make None o keeps k h = tt
 lift_two N P Q make (Some w) None keeps k h = tt
 lift_two N P Q make (Some w) (Some x) keeps k h = keeps w x k h
-
-high_fits : (low high n : ℕ) → between low high n ≡ true → leb n high ≡ true
-high_fits low high n h = (and_parts (leb low n) (leb n high) h).1
 
 abbrev IsOperand : WrittenOperand → Operand → Type 0
 IsOperand w e = (e ≡ operand_of w) × (operand_fits e ≡ true)

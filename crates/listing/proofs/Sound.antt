@@ -66,12 +66,12 @@ grown_fit (t ∷ u ∷ ts) i short fits h =
 
 -- where the bound has been read
 bound_read : (o : Option ℕ) (ts : List (List Instruction)) (fs : List (List Condition)) → is_some o ≡ true → Started o ts fs
-bound_read None ts fs h = let z : ◌≡◌ {A = ℕ} 0 1 = cc in absurd (omega arith)
+bound_read None ts fs h = cc
 bound_read (Some k) ts fs h = tt
 
 -- where a thread has been read
 thread_read : (o : Option ℕ) (ts us : List (List Instruction)) (fs : List (List Condition)) → some ts ≡ true → Started o ts fs → Started o us fs
-thread_read None ts us fs h s = let z : true ≡ false = sym h ∙ ap some s.0 in let y : ◌≡◌ {A = ℕ} 0 1 = cc in absurd (omega arith)
+thread_read None ts us fs h s = cc
 thread_read (Some k) ts us fs h s = tt
 
 sound_more : (p : Progress) (n : ℕ) (l : Line) → Sound p → stands p l ≡ true → line_ranges l ≡ true → room p l ≡ true → Sound (with_line p n l)

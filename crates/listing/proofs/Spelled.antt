@@ -48,19 +48,19 @@ pub no_name : {X : Type 0} (spell : X → List ℕ) (xs : List X) (w : List ℕ)
 no_name spell [] w h = refl
 no_name spell (x ∷ xs) w h = cond-false (same_word (spell x) w) (Some x) (named spell xs w) (unlike (spell x) w h.0) ∙ no_name spell xs w h.1
 
-abbrev variables : List Variable
-variables = variable.A ∷ variable.B ∷ variable.C ∷ variable.D ∷ variable.E ∷ variable.F ∷ variable.G ∷ variable.H ∷ []
+abbrev pub all_variables : List Variable
+all_variables = variable.A ∷ variable.B ∷ variable.C ∷ variable.D ∷ variable.E ∷ variable.F ∷ variable.G ∷ variable.H ∷ []
 
-abbrev registers : List Register
-registers = register.R0 ∷ register.R1 ∷ register.R2 ∷ register.R3 ∷ []
+abbrev pub all_registers : List Register
+all_registers = register.R0 ∷ register.R1 ∷ register.R2 ∷ register.R3 ∷ []
 
-pub no_variable : (w : List ℕ) → All (λ v. Spells (variable_word v) w → ⊥) variables → variable_of w ≡ None
+pub no_variable : (w : List ℕ) → All (λ v. Spells (variable_word v) w → ⊥) all_variables → variable_of w ≡ None
 unfolding variable_of
-no_variable w h = no_name variable_word variables w h
+no_variable w h = no_name variable_word all_variables w h
 
-pub no_register : (w : List ℕ) → All (λ r. Spells (register_word r) w → ⊥) registers → register_of w ≡ None
+pub no_register : (w : List ℕ) → All (λ r. Spells (register_word r) w → ⊥) all_registers → register_of w ≡ None
 unfolding register_of
-no_register w h = no_name register_word registers w h
+no_register w h = no_name register_word all_registers w h
 
 -- a number is no name
 pub first_digit : (b : ℕ) (bs : List ℕ) → all is_digit (b ∷ bs) ≡ true → b ≤ 57

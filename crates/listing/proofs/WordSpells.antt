@@ -16,6 +16,8 @@ use Rattle.listing.specs.Spelling.{Item, Writes, one_digit, two_digits, Spelled,
 use Rattle.listing.specs.Spelling as spelling
 use Rattle.listing.specs.Values.{operand_fits}
 use Rattle.listing.specs.Words.{is_digit}
+use Rattle.listing.proofs.Counts.{high_fits}
+use Rattle.listing.proofs.Spelled.{all_variables, all_registers}
 
 abbrev pub Only : {X : Type 0} → (X → Type 0) → Says X → Type 0
 Only {X} P s = (x : X) → s ≡ means x → P x
@@ -26,10 +28,10 @@ pub record Reads {X : Type 0} (p : List ℕ → Says X) (item : X → Item) (fit
 
 module _ {X : Type 0} (P : X → Type 0) where
   pub only_formless : Only P no_form
-  only_formless x h = absurd (let z : ◌≡◌ {A = ℕ} 0 1 = cc in omega arith)
+  only_formless x h = cc
 
   pub only_unranged : Only P out_of_range
-  only_unranged x h = absurd (let z : ◌≡◌ {A = ℕ} 0 1 = cc in omega arith)
+  only_unranged x h = cc
 
   pub only_meant : (x : X) → P x → Only P (means x)
   only_meant x p y h = let e : x ≡ y = cc in subst P e p
@@ -89,14 +91,14 @@ register_named registers.R3 = refl
 pub variable_reads : Reads variable (λ v. spelling.name (variable_word v)) (λ v. true)
 unfolding variable_of
 variable_reads = record {
-  only = λ w v h. (named_only variable_word (variables.A ∷ variables.B ∷ variables.C ∷ variables.D ∷ variables.E ∷ variables.F ∷ variables.G ∷ variables.H ∷ []) w v h, refl);
+  only = λ w v h. (named_only variable_word all_variables w v h, refl);
   every = λ w v fits same. ap variable same ∙ variable_named v;
 }
 
 pub register_reads : Reads register (λ r. spelling.name (register_word r)) (λ r. true)
 unfolding register_of
 register_reads = record {
-  only = λ w r h. (named_only register_word (registers.R0 ∷ registers.R1 ∷ registers.R2 ∷ registers.R3 ∷ []) w r h, refl);
+  only = λ w r h. (named_only register_word all_registers w r h, refl);
   every = λ w r fits same. ap register same ∙ register_named r;
 }
 
@@ -112,10 +114,10 @@ digit_from d h = and_from (leb 48 (48 + d)) (leb (48 + d) 57) (le-leb 48 (48 + d
 
 digits_given : (b : Bool) (m n : ℕ) → cond b (Some m) None ≡ Some n → (b ≡ true) × (m ≡ n)
 digits_given true m n h = (refl, cc)
-digits_given false m n h = (cc, cc)
+digits_given false m n h = cc
 
 value_written : (w : List ℕ) (n : ℕ) → value_of w ≡ Some n → Writes n w
-value_written [] n h = absurd (let z : ◌≡◌ {A = ℕ} 0 1 = cc in omega arith)
+value_written [] n h = cc
 value_written (d ∷ []) n h =
     let given = digits_given (is_digit d) (d - 48) n h in
     let last = digit_is d given.0 in
@@ -128,7 +130,7 @@ value_written (t ∷ d ∷ []) n h =
     subst (λ k. Writes n (k ∷ d ∷ [])) tens.1
     (subst (λ k. Writes n ((48 + (t - 48)) ∷ k ∷ [])) last.1
     (subst (λ m. Writes m ((48 + (t - 48)) ∷ (48 + (d - 48)) ∷ [])) given.1 (two_digits (t - 48) (d - 48) tens.0 last.0)))
-value_written (t ∷ d ∷ e ∷ w) n h = absurd (let z : ◌≡◌ {A = ℕ} 0 1 = cc in omega arith)
+value_written (t ∷ d ∷ e ∷ w) n h = cc
 
 written_value : {n : ℕ} {w : List ℕ} → Writes n w → (all is_digit w ≡ true) × (value_of w ≡ Some n)
 written_value (one_digit d h) =
@@ -161,7 +163,7 @@ number_reads low high = record {
 -- a number from 0 on
 pub upto_reads : (high : ℕ) → Reads (number 0 high) spelling.number (λ n. leb n high)
 upto_reads high = record {
-  only = λ w n h. let is = (number_reads 0 high).only w n h in (is.0, (and_parts (leb 0 n) (leb n high) is.1).1);
+  only = λ w n h. let is = (number_reads 0 high).only w n h in (is.0, high_fits 0 high n is.1);
   every = λ w n fits. (number_reads 0 high).every w n (and_from (leb 0 n) (leb n high) (le-leb 0 n zero-le) fits);
 }
 

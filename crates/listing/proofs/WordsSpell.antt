@@ -1,5 +1,5 @@
 -- Lines of words that are read as a program spell it, and it keeps the limits. Assumes nothing.
-use Rattle.std.proofs.Common.{◌≡◌, ℕ, Bool, true, not, ◌&&◌, leb, List, [], ◌∷◌, ◌++◌, map, length, is_some, Some, None, Ok, Option, sym, refl, ap, ◌∙◌, subst, arith}
+use Rattle.std.proofs.Common.{◌≡◌, ℕ, Bool, true, not, ◌&&◌, leb, List, [], ◌∷◌, ◌++◌, map, length, is_some, Some, None, Ok, Option, sym, refl, ap, ◌∙◌, subst}
 use Rattle.std.specs.List.{flat_map}
 use Rattle.std.proofs.lemmas.List.{append-nil, append_assoc, map_push, flat_map_more}
 use Rattle.std.proofs.lemmas.Bool.{and_parts, and_from, leb-true, le-leb}
@@ -33,7 +33,7 @@ progress_rows p = bound_rows p.bound ++ (flat_map thread_rows p.threads ++ map f
 bound_more : (o : Option ℕ) (ts : List (List Instruction)) (fs : List (List Condition)) (k : ℕ) → Started o ts fs → not (is_some o) ≡ true
     → bound_rows (Some k) ++ (flat_map thread_rows ts ++ map fault_row fs) ≡ (bound_rows o ++ (flat_map thread_rows ts ++ map fault_row fs)) ++ line_items (bound_line k) ∷ []
 bound_more None ts fs k s h = rw (s.0, s.1) refl
-bound_more (Some j) ts fs k s h = let z : ◌≡◌ {A = ℕ} 0 1 = cc in absurd (omega arith)
+bound_more (Some j) ts fs k s h = cc
 
 grown_rows : (ts : List (List Instruction)) (i : Instruction) → some ts ≡ true → flat_map thread_rows (grown ts i) ≡ flat_map thread_rows ts ++ instruction_items i ∷ []
 grown_rows [] i h = cc
@@ -76,14 +76,14 @@ record Finished (p : Progress) (c : Code) : Type 0 where
 
 filled_from : (p : Progress) (c : Code) (o : Option ℕ) → filled p o ≡ Ok c → (o ≡ None) × (complete p p.bound ≡ Ok c)
 filled_from p c None h = (refl, h)
-filled_from p c (Some n) h = (cc, cc)
+filled_from p c (Some n) h = cc
 
 targeted_from : (p : Progress) (k : ℕ) (c : Code) (o : Option ℕ) → targeted p k o ≡ Ok c → (o ≡ None) × (c ≡ record { bound = k; threads = p.threads; faults = p.faults })
 targeted_from p k c None h = (refl, cc)
-targeted_from p k c (Some n) h = (cc, cc)
+targeted_from p k c (Some n) h = cc
 
 complete_from : (p : Progress) (c : Code) (o : Option ℕ) → complete p o ≡ Ok c → (k : ℕ) × (o ≡ Some k) × ((some p.threads && some p.faults) ≡ true) × (targeted p k (target_failing p) ≡ Ok c)
-complete_from p c None h = let z : ◌≡◌ {A = ℕ} 0 1 = cc in absurd (omega arith)
+complete_from p c None h = cc
 complete_from p c (Some k) h = let t = passed (some p.threads && some p.faults) (targeted p k (target_failing p)) _ c h in (k, refl, t.0, t.1)
 
 finished_from : (p : Progress) (c : Code) → finished p ≡ Ok c → Finished p c
