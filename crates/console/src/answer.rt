@@ -7,7 +7,7 @@ use job::lines::refusal_line;
 use listing::refusal::Refusal;
 use machines::buffered::{Buffered, Standing};
 
-// Reads, solves and reports.
+// Reads, solves and reports. Rows and notes are lent apart, as a job is lent them.
 fn report(
     text: &[u8],
     rows: &mut [Standing],

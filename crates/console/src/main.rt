@@ -12,7 +12,8 @@ use std::process::ExitCode;
 // One byte more than a listing may have, so that a longer one is refused and not read to its end.
 const MOST_READ: u64 = 4097;
 
-// Prints the answer, and says with which status the process ends.
+// Prints the answer, and says with which status the process ends. A rule of the project: only programs allocate, so what is
+// read and lent here stands in `effort` as well.
 fn print_answer(rt: &HostRuntime) -> io::Result<ExitCode> {
     let mut text = Vec::new(rt.alloc());
     rt.stdin().take(MOST_READ).read_to_end(&mut text)?;

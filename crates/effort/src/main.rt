@@ -14,7 +14,8 @@ use std::cell::Cell;
 use std::io;
 use std::io::Read;
 
-// The explorations of one search; each asks the machine for its start once.
+// The explorations of one search; each asks the machine for its start once. Rows and notes are lent apart, as a search is
+// lent them.
 fn explorations(program: &Program, rows: &mut [Standing], notes: &mut [u32]) -> u32 {
     let starts = Cell::new(0);
     let machine = Counting {

@@ -22,7 +22,8 @@ impl Filler for u16 {
     }
 }
 
-// At most `N` values, and at most 255. Unused room holds the filler, so that equal lists are equal memory.
+// At most `N` values, and at most 255. A rule of the project: the memory is fixed, so the length stands beside it. Unused room
+// holds the filler, so that equal lists are equal memory.
 #[derive(PartialEq, Eq)]
 pub struct Few<T: Filler, const N: usize> {
     len: u8,

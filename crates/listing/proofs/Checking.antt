@@ -18,11 +18,11 @@ module _ {X : Type 0} (test : X → Bool) where
   ended (n ∷ ns) (x ∷ xs) h = elim h [ inl e ↦ absurd (omega arith) | inr e ↦ absurd (omega arith) ]
 
 -- the same for the jumps of threads
-pub thread_failed : (mss nss : List (List ℕ)) (ns : List ℕ) (us ts : List (List Instruction)) (t : List Instruction) (n : ℕ) → mss ≡ ns ∷ nss → us ≡ t ∷ ts
+pub thread_failed : (mss nss : List (List ℕ)) (ns : List ℕ) (us ts : List (List (Instruction ℕ))) (t : List (Instruction ℕ)) (n : ℕ) → mss ≡ ns ∷ nss → us ≡ t ∷ ts
     → first_failing (jump_within (length t)) ns t ≡ Some n → jump_failing mss us ≡ Some n
 thread_failed mss nss ns us ts t n e f h = rw (e, f, h) refl
 
-pub threads_ended : (nss : List (List ℕ)) (ts : List (List Instruction)) → (length ts ≡ 0) ⊎ (length nss ≡ 0) → jump_failing nss ts ≡ None
+pub threads_ended : (nss : List (List ℕ)) (ts : List (List (Instruction ℕ))) → (length ts ≡ 0) ⊎ (length nss ≡ 0) → jump_failing nss ts ≡ None
 threads_ended [] ts h = refl
 threads_ended (ns ∷ nss) [] h = refl
 threads_ended (ns ∷ nss) (t ∷ ts) h = elim h [ inl e ↦ absurd (omega arith) | inr e ↦ absurd (omega arith) ]

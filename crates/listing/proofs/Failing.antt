@@ -32,7 +32,7 @@ module _ {X : Type 0} (test : X → Bool) where
   none_fails (n ∷ ns) [] h = refl
   none_fails (n ∷ ns) (x ∷ xs) h = let parts = and_parts (test x) (all test xs) h in rw parts.0 (none_fails ns xs parts.1)
 
-pub all_jumps_pass : (nss : List (List ℕ)) (ts : List (List Instruction)) → Pairwise AsLong nss ts → jump_failing nss ts ≡ None → all jumps_there ts ≡ true
+pub all_jumps_pass : (nss : List (List ℕ)) (ts : List (List (Instruction ℕ))) → Pairwise AsLong nss ts → jump_failing nss ts ≡ None → all jumps_there ts ≡ true
 all_jumps_pass [] [] l h = refl
 all_jumps_pass [] (t ∷ ts) l h = absurd l
 all_jumps_pass (ns ∷ nss) [] l h = absurd l
@@ -40,7 +40,7 @@ all_jumps_pass (ns ∷ nss) (t ∷ ts) l h =
     let parts = or_else_none (first_failing (jump_within (length t)) ns t) (jump_failing nss ts) h in
     and_from _ _ (all_pass (jump_within (length t)) ns t l.0 parts.0) (all_jumps_pass nss ts l.1 parts.1)
 
-pub no_jump_fails : (nss : List (List ℕ)) (ts : List (List Instruction)) → all jumps_there ts ≡ true → jump_failing nss ts ≡ None
+pub no_jump_fails : (nss : List (List ℕ)) (ts : List (List (Instruction ℕ))) → all jumps_there ts ≡ true → jump_failing nss ts ≡ None
 no_jump_fails [] ts h = refl
 no_jump_fails (ns ∷ nss) [] h = refl
 no_jump_fails (ns ∷ nss) (t ∷ ts) h =

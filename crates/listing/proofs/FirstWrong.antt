@@ -126,10 +126,10 @@ first_failing_is test (m ∷ ns) (x ∷ xs) n h =
     ] refl h
 
 -- what has been read, with other threads and their lines
-abbrev holding : Progress → List (List ℕ) → List (List Instruction) → Progress
+abbrev holding : Progress → List (List ℕ) → List (List (Instruction ℕ)) → Progress
 holding p nss ts = record { bound = p.bound; threads = ts; faults = p.faults; thread_lines = p.thread_lines; instruction_lines = nss; fault_lines = p.fault_lines }
 
-jump_failing_is : (p : Progress) (nss : List (List ℕ)) (ts : List (List Instruction)) (n : ℕ) → Pairwise AsLong nss ts → jump_failing nss ts ≡ Some n → FirstJumpAstray (holding p nss ts) n
+jump_failing_is : (p : Progress) (nss : List (List ℕ)) (ts : List (List (Instruction ℕ))) (n : ℕ) → Pairwise AsLong nss ts → jump_failing nss ts ≡ Some n → FirstJumpAstray (holding p nss ts) n
 jump_failing_is p [] ts n s h = cc
 jump_failing_is p (ns ∷ nss) [] n s h = cc
 jump_failing_is p (ns ∷ nss) (t ∷ ts) n s h =

@@ -13,7 +13,7 @@ use Rattle.listing.proofs.Spelled.{Spells, spelled, unlike, first_digit}
 
 -- what an instruction's words say if its form says it, where vs are the words after the form; and no form if that is none
 module _ (m : List ℕ) (ws : List (List ℕ)) where
-  module _ {vs : List (List ℕ)} {s : Says Instruction} where
+  module _ {vs : List (List ℕ)} {s : Says (Instruction ℕ)} where
     pub store_row : m ≡ codes "store" → vs ≡ rest (rest ws) → two instructions.Store variable operand ws ≡ s → instruction m ws ≡ ended vs s
     unfolding instruction
     store_row h e x = rw (h, e, ← x) refl
@@ -49,7 +49,7 @@ module _ (m : List ℕ) (ws : List (List ℕ)) where
   pub no_store : m ≡ codes "store" → two instructions.Store variable operand ws ≡ no_form → instruction m ws ≡ no_form
   no_store h x = store_row h refl x ∙ ended_none _ _ refl
 
-  pub no_load : m ≡ codes "load" → two instructions.Load register variable ws ≡ no_form → instruction m ws ≡ no_form
+  pub no_load : m ≡ codes "load" → two {V = Instruction ℕ} instructions.Load register variable ws ≡ no_form → instruction m ws ≡ no_form
   no_load h x = load_row h refl x ∙ ended_none _ _ refl
 
   pub no_set : m ≡ codes "set" → two instructions.Set register operand ws ≡ no_form → instruction m ws ≡ no_form
@@ -123,7 +123,7 @@ module _ (k : List ℕ) (vs : List (List ℕ)) where
   enough_3 : conditions (length vs) (rest (rest (rest vs))) ≡ all_conditions (rest (rest (rest vs)))
   enough_3 = enough _ _ (rest (rest (rest vs))) (omega (arith, rest_shorter vs, rest_shorter (rest vs), rest_shorter (rest (rest vs)))) (omega arith)
 
-  module _ {ws us : List (List ℕ)} {s : Says Condition} where
+  module _ {ws us : List (List ℕ)} {s : Says (Condition ℕ)} where
     pub at_row : ws ≡ k ∷ vs → Spells (codes "at") k → us ≡ rest (rest vs) → two condition.At thread target vs ≡ s → all_conditions ws ≡ more s (all_conditions us)
     unfolding conditions
     at_row d h e x = rw (d, spelled (codes "at") k h, e, ← x) (ap (more _) enough_2)

@@ -48,7 +48,7 @@ instruction_only w ws =
     (whole_only P (codes "jne") w _ _ _ (λ same end. three_only register_reads operand_reads (upto_reads 16) instructions.JumpUnlessEqual P ws (λ r e n _ fit fit' leads. ((same, leads [] end), and_from _ _ fit fit')))
     (only_formless P)))))))))
 
-instruction_every : (i : Instruction) (w : List ℕ) (ws : List (List ℕ)) → instruction_fits i ≡ true → Pairwise Spelled (instruction_items i) (w ∷ ws) → instruction w ws ≡ means i
+instruction_every : (i : Instruction ℕ) (w : List ℕ) (ws : List (List ℕ)) → instruction_fits i ≡ true → Pairwise Spelled (instruction_items i) (w ∷ ws) → instruction w ws ≡ means i
 unfolding instruction
 instruction_every (instructions.Store v e) w ws fit h = rw h.0 (ended_every _ _ _ (two_every variable_reads operand_reads instructions.Store v e [] ws refl fit h.1))
 instruction_every (instructions.Load r v) w ws fit h = rw h.0 (ended_every _ _ _ (two_every register_reads variable_reads instructions.Load r v [] ws refl refl h.1))
@@ -66,7 +66,7 @@ instruction_every (instructions.JumpUnlessEqual r e n) w ws fit h =
     let fits = and_parts (operand_fits e) (leb n 16) fit in
     rw h.0 (ended_every _ _ _ (three_every register_reads operand_reads (upto_reads 16) instructions.JumpUnlessEqual r e n [] ws refl fits.0 fits.1 h.1))
 
-more_only : (P : List Condition → Type 0) (s : Says Condition) (t : Says (List Condition)) → Only (λ c. Only (λ cs. P (c ∷ cs)) t) s → Only P (more s t)
+more_only : (P : List (Condition ℕ) → Type 0) (s : Says (Condition ℕ)) (t : Says (List (Condition ℕ))) → Only (λ c. Only (λ cs. P (c ∷ cs)) t) s → Only P (more s t)
 more_only P s t k = only_apply P (apply (means ◌∷◌) s) t (only_map (λ g. Only (λ cs. P (g cs)) t) ◌∷◌ s k)
 
 conditions_only : (n : ℕ) (ws : List (List ℕ)) → Only (SpellsOut (flat_map condition_items) (all condition_fits) ws) (conditions n ws)
@@ -89,7 +89,7 @@ conditions_only (suc n) (k ∷ ws) =
     (λ v d _ fit leads cs h. let is = conditions_only n (rest (rest ws)) cs h in ((same, leads _ is.0), and_from _ _ fit is.1))))
     (only_formless P)))
 
-more_every : (c : Condition) (cs : List Condition) (s : Says Condition) (t : Says (List Condition)) → s ≡ means c → t ≡ means cs → more s t ≡ means (c ∷ cs)
+more_every : (c : Condition ℕ) (cs : List (Condition ℕ)) (s : Says (Condition ℕ)) (t : Says (List (Condition ℕ))) → s ≡ means c → t ≡ means cs → more s t ≡ means (c ∷ cs)
 more_every c cs s t h k = rw (h, k) refl
 
 -- the number of conditions that may follow is at least the number of words
@@ -99,7 +99,7 @@ named_first Q v is n [] l h k = absurd h
 named_first Q v is zero (w ∷ ws) l h k = absurd (omega arith)
 named_first Q v is (suc n) (w ∷ ws) l h k = subst (λ u. Q (suc n) (u ∷ ws)) (sym h.0) (k n ws (omega arith) h.1)
 
-conditions_every : (cs : List Condition) (n : ℕ) (ws : List (List ℕ)) → length ws ≤ n → all condition_fits cs ≡ true → Pairwise Spelled (flat_map condition_items cs) ws → conditions n ws ≡ means cs
+conditions_every : (cs : List (Condition ℕ)) (n : ℕ) (ws : List (List ℕ)) → length ws ≤ n → all condition_fits cs ≡ true → Pairwise Spelled (flat_map condition_items cs) ws → conditions n ws ≡ means cs
 unfolding conditions
 conditions_every [] zero [] l fit h = refl
 conditions_every [] (suc n) [] l fit h = refl
@@ -126,17 +126,17 @@ fault_only : (ws : List (List ℕ)) → Only (SpellsOut (flat_map condition_item
 fault_only [] cs h = only_formless (SpellsOut (flat_map condition_items) (λ cs. line_ranges (fault_line cs)) []) cs h
 fault_only (w ∷ ws) cs h = let is = conditions_only (length (w ∷ ws)) (w ∷ ws) cs h in (is.0, and_from _ _ (some cs is.0) is.1)
   where
-    some : (cs : List Condition) → Pairwise Spelled (flat_map condition_items cs) (w ∷ ws) → leb 1 (length cs) ≡ true
+    some : (cs : List (Condition ℕ)) → Pairwise Spelled (flat_map condition_items cs) (w ∷ ws) → leb 1 (length cs) ≡ true
     some [] h = absurd h
     some (c ∷ cs) h = le-leb 1 (length (c ∷ cs)) (omega arith)
 
-fault_every : (cs : List Condition) (ws : List (List ℕ)) → line_ranges (fault_line cs) ≡ true → Pairwise Spelled (flat_map condition_items cs) ws → fault ws ≡ means cs
+fault_every : (cs : List (Condition ℕ)) (ws : List (List ℕ)) → line_ranges (fault_line cs) ≡ true → Pairwise Spelled (flat_map condition_items cs) ws → fault ws ≡ means cs
 unfolding conditions
 fault_every cs ws fit h =
     let fits = and_parts (leb 1 (length cs)) (all condition_fits cs) fit in
     some cs ws fits.0 (conditions_every cs (length ws) ws (omega arith) fits.1 h)
   where
-    some : (cs : List Condition) (ws : List (List ℕ)) → leb 1 (length cs) ≡ true → conditions (length ws) ws ≡ means cs → fault ws ≡ means cs
+    some : (cs : List (Condition ℕ)) (ws : List (List ℕ)) → leb 1 (length cs) ≡ true → conditions (length ws) ws ≡ means cs → fault ws ≡ means cs
     some [] [] long read = cc
     some (c ∷ cs) [] long read = cc
     some cs (w ∷ ws) long read = read
@@ -154,7 +154,7 @@ pub form_spelled : (w : List ℕ) (ws : List (List ℕ)) (l : Line) → form w w
 form_spelled w ws l h = form_only w ws l h
 
 -- the first word of an instruction is none at which there is no instruction
-other_word : (v w : List ℕ) (ws : List (List ℕ)) (i : Instruction) → instruction v ws ≡ no_form → instruction w ws ≡ means i → same_word v w ≡ false
+other_word : (v w : List ℕ) (ws : List (List ℕ)) (i : Instruction ℕ) → instruction v ws ≡ no_form → instruction w ws ≡ means i → same_word v w ≡ false
 other_word v w ws i none read = ⊎_elim (λ same. let e = same_word_eq v w same in cc) (λ other. other) (cases_Bool (same_word v w))
 
 pub spelled_form : (l : Line) (w : List ℕ) (ws : List (List ℕ)) → line_ranges l ≡ true → Pairwise Spelled (line_items l) (w ∷ ws) → form w ws ≡ means l

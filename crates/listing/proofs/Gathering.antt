@@ -6,7 +6,7 @@ use Rattle.std.specs.Option.{option_or}
 use Rattle.listing.specs.declared.code.Condition.{Condition}
 use Rattle.listing.specs.declared.code.Condition.TheVariants as condition
 use Rattle.listing.specs.declared.lexer.Words.{Words}
-use Rattle.listing.specs.declared.lines.WrittenCondition.{WrittenCondition}
+use Rattle.listing.specs.Written.{WrittenCondition}
 use Rattle.listing.specs.declared.refusal.Reason.{Reason}
 use Rattle.listing.specs.declared.refusal.Reason.TheVariants.{NumberOutOfRange, TooMany}
 use Rattle.listing.specs.Forms.{Says, no_form, out_of_range, means, apply, register, target, thread, value, variable, rest, two, three, more, conditions, all_conditions, fault}
@@ -15,15 +15,15 @@ use Rattle.listing.specs.Reading.{refusal}
 use Rattle.listing.specs.Taking.{TookCondition, condition_read, fitted, left, said}
 
 -- what is said with conditions before it, one of which may be out of range
-abbrev prefixed : Bool → List Condition → Says (List Condition) → Says (List Condition)
+abbrev prefixed : Bool → List (Condition ℕ) → Says (List (Condition ℕ)) → Says (List (Condition ℕ))
 prefixed ranged cs s = apply (apply (means ◌++◌) (cond ranged (means cs) out_of_range)) s
 
-prefixed_none : (s : Says (List Condition)) → s ≡ prefixed true [] s
+prefixed_none : (s : Says (List (Condition ℕ))) → s ≡ prefixed true [] s
 prefixed_none no_form = refl
 prefixed_none out_of_range = refl
 prefixed_none (means xs) = refl
 
-prefixed_more : (ranged : Bool) (cs : List Condition) (c : Condition) (s : Says (List Condition)) → prefixed ranged cs (more (means c) s) ≡ prefixed ranged (cs ++ c ∷ []) s
+prefixed_more : (ranged : Bool) (cs : List (Condition ℕ)) (c : Condition ℕ) (s : Says (List (Condition ℕ))) → prefixed ranged cs (more (means c) s) ≡ prefixed ranged (cs ++ c ∷ []) s
 prefixed_more true cs c no_form = refl
 prefixed_more true cs c out_of_range = refl
 prefixed_more true cs c (means xs) = ap means (sym (append_assoc cs (c ∷ []) xs))
@@ -31,7 +31,7 @@ prefixed_more false cs c no_form = refl
 prefixed_more false cs c out_of_range = refl
 prefixed_more false cs c (means xs) = refl
 
-prefixed_out : (ranged : Bool) (cs : List Condition) (s : Says (List Condition)) → prefixed ranged cs (more out_of_range s) ≡ prefixed false cs s
+prefixed_out : (ranged : Bool) (cs : List (Condition ℕ)) (s : Says (List (Condition ℕ))) → prefixed ranged cs (more out_of_range s) ≡ prefixed false cs s
 prefixed_out true cs no_form = refl
 prefixed_out true cs out_of_range = refl
 prefixed_out true cs (means xs) = refl
@@ -40,7 +40,7 @@ prefixed_out false cs out_of_range = refl
 prefixed_out false cs (means xs) = refl
 
 -- a condition is one more than none
-more_some : (x : Says Condition) (xs : Says (List Condition)) → more x xs ≡ means [] → ⊥
+more_some : (x : Says (Condition ℕ)) (xs : Says (List (Condition ℕ))) → more x xs ≡ means [] → ⊥
 more_some no_form xs h = cc
 more_some out_of_range no_form h = cc
 more_some out_of_range out_of_range h = cc
@@ -49,7 +49,7 @@ more_some (means x) no_form h = cc
 more_some (means x) out_of_range h = cc
 more_some (means x) (means xs) h = cc
 
-one_of : (a b c : Bool) (x y z : Says (List Condition)) → (x ≡ means [] → ⊥) → (y ≡ means [] → ⊥) → (z ≡ means [] → ⊥) → cond a x (cond b y (cond c z no_form)) ≡ means [] → ⊥
+one_of : (a b c : Bool) (x y z : Says (List (Condition ℕ))) → (x ≡ means [] → ⊥) → (y ≡ means [] → ⊥) → (z ≡ means [] → ⊥) → cond a x (cond b y (cond c z no_form)) ≡ means [] → ⊥
 one_of true b c x y z no-x no-y no-z h = no-x h
 one_of false true c x y z no-x no-y no-z h = no-y h
 one_of false false true x y z no-x no-y no-z h = no-z h
@@ -66,7 +66,7 @@ none_said (k ∷ ws) h =
     (more_some (two condition.Memory variable value ws) (conditions n (rest (rest ws)))) h)
 
 -- a fault line says what its conditions say, unless it has none
-fault_is : (ws : List (List ℕ)) (s : Says (List Condition)) → (s ≡ means [] → ⊥) → all_conditions ws ≡ s → fault ws ≡ s
+fault_is : (ws : List (List ℕ)) (s : Says (List (Condition ℕ))) → (s ≡ means [] → ⊥) → all_conditions ws ≡ s → fault ws ≡ s
 unfolding conditions
 fault_is [] s some h = absurd (some (sym h))
 fault_is (w ∷ ws) s some h = h
@@ -75,7 +75,7 @@ fault_none : (ws : List (List ℕ)) → all_conditions ws ≡ means [] → fault
 fault_none ws h = ap fault (none_said ws h)
 
 -- a condition before words that are no conditions
-more_formless : (x : Says Condition) → more x no_form ≡ no_form
+more_formless : (x : Says (Condition ℕ)) → more x no_form ≡ no_form
 more_formless no_form = refl
 more_formless out_of_range = refl
 more_formless (means x) = refl
@@ -93,8 +93,8 @@ pub data Found : Option Reason → Bool → ℕ → Type 0 where
   unranged : {n : ℕ} → Found (Some NumberOutOfRange) false n
 
 -- what has been gathered from the words ws while vs are left: the first six conditions, and what is wrong with them
-pub record Gathering (ws vs : List (List ℕ)) (line : List Condition) (wrong : Option Reason) : Type 0 where
-  pub so_far : List Condition
+pub record Gathering (ws vs : List (List ℕ)) (line : List (Condition ℕ)) (wrong : Option Reason) : Type 0 where
+  pub so_far : List (Condition ℕ)
   pub ranged : Bool
   pub whole : all_conditions ws ≡ prefixed ranged so_far (all_conditions vs)
   pub held : line ≡ take 6 so_far
@@ -111,11 +111,11 @@ found_past wrong ranged n m many e (nothing_wrong h) = crowded (omega arith)
 found_past wrong ranged n m many e (crowded h) = crowded (omega arith)
 found_past wrong ranged n m many e unranged = unranged
 
-taken_length : (ws vs : List (List ℕ)) (line : List Condition) (wrong : Option Reason) (g : Gathering ws vs line wrong) → length line ≡ min 6 (length g.so_far)
+taken_length : (ws vs : List (List ℕ)) (line : List (Condition ℕ)) (wrong : Option Reason) (g : Gathering ws vs line wrong) → length line ≡ min 6 (length g.so_far)
 taken_length ws vs line wrong g = ap length g.held ∙ length-take 6 g.so_far
 
-module _ (ws vs us : List (List ℕ)) (line : List Condition) (wrong : Option Reason) (g : Gathering ws vs line wrong) where
-  pub gather_kept : (c : Condition) (longer : List Condition) → all_conditions vs ≡ more (means c) (all_conditions us) → length line < 6 → longer ≡ line ++ c ∷ [] → Gathering ws us longer wrong
+module _ (ws vs us : List (List ℕ)) (line : List (Condition ℕ)) (wrong : Option Reason) (g : Gathering ws vs line wrong) where
+  pub gather_kept : (c : Condition ℕ) (longer : List (Condition ℕ)) → all_conditions vs ≡ more (means c) (all_conditions us) → length line < 6 → longer ≡ line ++ c ∷ [] → Gathering ws us longer wrong
   gather_kept c longer says few is =
       let short : length g.so_far < 6 = omega (arith, taken_length ws vs line wrong g) in
       let pushed = length_push g.so_far c in
@@ -129,7 +129,7 @@ module _ (ws vs us : List (List ℕ)) (line : List Condition) (wrong : Option Re
         found = found_kept wrong g.ranged (length g.so_far) (length (g.so_far ++ c ∷ [])) short pushed g.found;
       }
 
-  pub gather_past : (c : Condition) → all_conditions vs ≡ more (means c) (all_conditions us) → 6 ≤ length line → Gathering ws us line (option_or wrong (Some TooMany))
+  pub gather_past : (c : Condition ℕ) → all_conditions vs ≡ more (means c) (all_conditions us) → 6 ≤ length line → Gathering ws us line (option_or wrong (Some TooMany))
   gather_past c says full =
       let long : 6 ≤ length g.so_far = omega (arith, taken_length ws vs line wrong g) in
       record {
@@ -150,15 +150,15 @@ module _ (ws vs us : List (List ℕ)) (line : List Condition) (wrong : Option Re
         found = unranged;
       }
 
-pub gather_start : (ws : List (List ℕ)) (line : List Condition) → line ≡ [] → Gathering ws ws line None
+pub gather_start : (ws : List (List ℕ)) (line : List (Condition ℕ)) → line ≡ [] → Gathering ws ws line None
 gather_start ws line none = record { so_far = []; ranged = true; whole = prefixed_none (all_conditions ws); held = none; found = nothing_wrong (omega arith) }
 
-pub gather_ended : (ws : List (List ℕ)) (w v : Words) (o : Option WrittenCondition) (line : List Condition) (wrong : Option Reason) → TookCondition w v (Ok o) → o ≡ None → Gathering ws (left w) line wrong → Gathering ws [] line wrong
+pub gather_ended : (ws : List (List ℕ)) (w v : Words) (o : Option WrittenCondition) (line : List (Condition ℕ)) (wrong : Option Reason) → TookCondition w v (Ok o) → o ≡ None → Gathering ws (left w) line wrong → Gathering ws [] line wrong
 gather_ended ws w v o line wrong took none g =
     subst (λ vs. Gathering ws vs line wrong) (subst (λ x. TookCondition w v (Ok x)) none took).1 g
 
 -- nothing is left
-module _ (ws : List (List ℕ)) (line : List Condition) where
+module _ (ws : List (List ℕ)) (line : List (Condition ℕ)) where
   at_end : (wrong : Option Reason) (g : Gathering ws [] line wrong) → all_conditions ws ≡ cond g.ranged (means g.so_far) out_of_range
   unfolding conditions
   at_end wrong g = g.whole ∙ ended g.ranged
@@ -171,7 +171,7 @@ module _ (ws : List (List ℕ)) (line : List Condition) where
   some_end wrong g fit filled =
       fault_is ws (means g.so_far) (λ e. not_empty g.so_far filled e) (at_end wrong g ∙ ap (λ b. cond b (means g.so_far) out_of_range) fit)
     where
-      not_empty : (cs : List Condition) → 0 < length cs → means cs ≡ means [] → ⊥
+      not_empty : (cs : List (Condition ℕ)) → 0 < length cs → means cs ≡ means [] → ⊥
       not_empty [] h e = omega arith
       not_empty (c ∷ cs) h e = cc
 

@@ -17,7 +17,7 @@ stands p thread_line = thread_stands p
 stands p (instruction_line i) = instruction_stands p
 stands p (fault_line cs) = fault_stands p
 
-instruction_is : (p : Progress) (i : Instruction) (w : List ℕ) (ws : List (List ℕ)) → Pairwise Spelled (line_items (instruction_line i)) (w ∷ ws) → may_stand p w ≡ stands p (instruction_line i)
+instruction_is : (p : Progress) (i : Instruction ℕ) (w : List ℕ) (ws : List (List ℕ)) → Pairwise Spelled (line_items (instruction_line i)) (w ∷ ws) → may_stand p w ≡ stands p (instruction_line i)
 unfolding may_stand
 instruction_is p (instruction.Store v e) w ws s = ap (may_stand p) s.0
 instruction_is p (instruction.Load r v) w ws s = ap (may_stand p) s.0

@@ -135,11 +135,11 @@ register_sound register.R3 = (refl, lit≤ tt)
 number_sound : (n high : ℕ) → leb n high ≡ true → high < 100 → Sound (number n)
 number_sound n high h k = omega (arith, leb-true n high h)
 
-operand_sound : (e : Operand) → operand_fits e ≡ true → Sound (operand_item e)
+operand_sound : (e : Operand ℕ) → operand_fits e ≡ true → Sound (operand_item e)
 operand_sound (operand.Value n) h = number_sound n 15 h (lit≤ tt)
 operand_sound (operand.Register r) h = register_sound r
 
-instruction_full : (i : Instruction) → instruction_fits i ≡ true → Full (instruction_items i)
+instruction_full : (i : Instruction ℕ) → instruction_fits i ≡ true → Full (instruction_items i)
 instruction_full (instruction.Store v e) h = ((refl, lit≤ tt), (variable_sound v, (operand_sound e h, tt)))
 instruction_full (instruction.Load r v) h = ((refl, lit≤ tt), (register_sound r, (variable_sound v, tt)))
 instruction_full (instruction.Set r e) h = ((refl, lit≤ tt), (register_sound r, (operand_sound e h, tt)))
@@ -156,7 +156,7 @@ instruction_full (instruction.JumpUnlessEqual r e n) h =
     let halves = and_parts (operand_fits e) (leb n 16) h in
     ((refl, lit≤ tt), (register_sound r, (operand_sound e halves.0, (number_sound n 16 halves.1 (lit≤ tt), tt))))
 
-condition_sound : (c : Condition) → condition_fits c ≡ true → All Sound (condition_items c)
+condition_sound : (c : Condition ℕ) → condition_fits c ≡ true → All Sound (condition_items c)
 condition_sound (condition.At t n) h =
     let halves = and_parts (leb t 3) (leb n 16) h in
     ((refl, lit≤ tt), (number_sound t 3 halves.0 (lit≤ tt), (number_sound n 16 halves.1 (lit≤ tt), tt)))
@@ -165,44 +165,44 @@ condition_sound (condition.Holds t r d) h =
     ((refl, lit≤ tt), (number_sound t 3 halves.0 (lit≤ tt), (register_sound r, (number_sound d 15 halves.1 (lit≤ tt), tt))))
 condition_sound (condition.Memory v d) h = ((refl, lit≤ tt), (variable_sound v, (number_sound d 15 h (lit≤ tt), tt)))
 
-instructions_full : (is : List Instruction) → all instruction_fits is ≡ true → All Full (map instruction_items is)
+instructions_full : (is : List (Instruction ℕ)) → all instruction_fits is ≡ true → All Full (map instruction_items is)
 instructions_full is h = elements.all_map Full instruction_items is (elements.all_weaker _ _ instruction_full is (each instruction_fits is h))
 
-conditions_sound : (cs : List Condition) → all condition_fits cs ≡ true → All Sound (flat_map condition_items cs)
+conditions_sound : (cs : List (Condition ℕ)) → all condition_fits cs ≡ true → All Sound (flat_map condition_items cs)
 conditions_sound [] h = tt
 conditions_sound (c ∷ cs) h =
     let halves = and_parts (condition_fits c) (all condition_fits cs) h in
     elements.all_append Sound (condition_items c) (flat_map condition_items cs) (condition_sound c halves.0) (conditions_sound cs halves.1)
 
-threads_full : (ts : List (List Instruction)) → all thread_keeps ts ≡ true → All Full (flat_map thread_rows ts)
+threads_full : (ts : List (List (Instruction ℕ))) → all thread_keeps ts ≡ true → All Full (flat_map thread_rows ts)
 threads_full [] h = tt
 threads_full (t ∷ ts) h =
     let halves = and_parts (thread_keeps t) (all thread_keeps ts) h in
     (((refl, lit≤ tt), tt), elements.all_append Full (map instruction_items t) (flat_map thread_rows ts) (instructions_full t (thread_parts t halves.0).1) (threads_full ts halves.1))
 
-condition_few : (c : Condition) → length (condition_items c) ≤ 4
+condition_few : (c : Condition ℕ) → length (condition_items c) ≤ 4
 condition_few (condition.At t n) = lit≤ tt
 condition_few (condition.Holds t r d) = lit≤ tt
 condition_few (condition.Memory v d) = lit≤ tt
 
-condition_count : (cs : List Condition) → length (flat_map condition_items cs) ≤ 4 * length cs
+condition_count : (cs : List (Condition ℕ)) → length (flat_map condition_items cs) ≤ 4 * length cs
 condition_count [] = zero-le
 condition_count (c ∷ cs) = simp length-append (omega (arith, condition_few c, condition_count cs))
 
-module _ (ts : List (List Instruction)) where
-  faults_full : (fs : List (List Condition)) → all (fault_keeps ts) fs ≡ true → All Full (map fault_row fs)
+module _ (ts : List (List (Instruction ℕ))) where
+  faults_full : (fs : List (List (Condition ℕ))) → all (fault_keeps ts) fs ≡ true → All Full (map fault_row fs)
   faults_full fs h =
       elements.all_map Full fault_row fs
       (elements.all_weaker _ _ (λ cs k. ((refl, lit≤ tt), conditions_sound cs (fault_parts ts cs k).1)) fs (each (fault_keeps ts) fs h))
 
   -- six conditions of four items, and the first word
-  fault_items : (fs : List (List Condition)) → all (fault_keeps ts) fs ≡ true → together (map fault_row fs) ≤ 25 * length fs
+  fault_items : (fs : List (List (Condition ℕ))) → all (fault_keeps ts) fs ≡ true → together (map fault_row fs) ≤ 25 * length fs
   fault_items [] h = zero-le
   fault_items (cs ∷ fs) h =
       let halves = and_parts (fault_keeps ts cs) (all (fault_keeps ts) fs) h in
       omega (arith, condition_count cs, at_most 1 6 (length cs) (fault_parts ts cs halves.0).0, fault_items fs halves.1)
 
-instruction_few : (i : Instruction) → length (instruction_items i) ≤ 5
+instruction_few : (i : Instruction ℕ) → length (instruction_items i) ≤ 5
 instruction_few (instruction.Store v e) = lit≤ tt
 instruction_few (instruction.Load r v) = lit≤ tt
 instruction_few (instruction.Set r e) = lit≤ tt
@@ -213,11 +213,11 @@ instruction_few (instruction.Jump n) = lit≤ tt
 instruction_few (instruction.JumpIfEqual r e n) = lit≤ tt
 instruction_few (instruction.JumpUnlessEqual r e n) = lit≤ tt
 
-instruction_count : (is : List Instruction) → together (map instruction_items is) ≤ 5 * length is
+instruction_count : (is : List (Instruction ℕ)) → together (map instruction_items is) ≤ 5 * length is
 instruction_count [] = zero-le
 instruction_count (i ∷ is) = omega (arith, instruction_few i, instruction_count is)
 
-thread_items : (ts : List (List Instruction)) → together (flat_map thread_rows ts) ≤ length ts + 5 * together ts
+thread_items : (ts : List (List (Instruction ℕ))) → together (flat_map thread_rows ts) ≤ length ts + 5 * together ts
 thread_items [] = zero-le
 thread_items (t ∷ ts) = simp together_append (omega (arith, instruction_count t, thread_items ts))
 

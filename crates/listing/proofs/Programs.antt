@@ -32,7 +32,7 @@ together_part ls i = omega (arith, together_next ls i)
 pub length_fits : (p : Program) (t : ℕ) → length_of p t ≤ 16
 length_fits p t = fits p.threads t (kept p).keep
   where
-    fits : (ts : List (List Instruction)) (t : ℕ) → all thread_keeps ts ≡ true → length (get_or ts t []) ≤ 16
+    fits : (ts : List (List (Instruction ℕ))) (t : ℕ) → all thread_keeps ts ≡ true → length (get_or ts t []) ≤ 16
     fits [] zero h = zero-le
     fits [] (suc t) h = zero-le
     fits (is ∷ ts) zero h = at_most 1 16 (length is) (thread_parts is (and_parts (thread_keeps is) (all thread_keeps ts) h).0).0
@@ -48,12 +48,12 @@ thread_is (l ∷ ls) (suc t) at h = omega (arith, thread_is ls t at h)
 pub place_fits : (p : Program) (t at : ℕ) → at < length_of p t → place_of p t at < 32
 place_fits p t at h = omega (arith, together_next p.threads t, (kept p).few)
 
-condition_in : (ts : List (List Instruction)) (c : Condition) → length ts ≤ 4 → condition_there ts c ≡ true → condition_sound c ≡ true
+condition_in : (ts : List (List (Instruction ℕ))) (c : Condition ℕ) → length ts ≤ 4 → condition_there ts c ≡ true → condition_sound c ≡ true
 condition_in ts (condition.At t n) few h = let lt : t < length ts = ltb-true _ _ (and_parts (ltb t (length ts)) _ h).0 in lt-ltb t 4 (omega arith)
 condition_in ts (condition.Holds t r d) few h = let lt : t < length ts = ltb-true _ _ h in lt-ltb t 4 (omega arith)
 condition_in ts (condition.Memory v d) few h = refl
 
-line_in : (ts : List (List Instruction)) (l : List Condition) → length ts ≤ 4 → fault_keeps ts l ≡ true → line_sound l ≡ true
+line_in : (ts : List (List (Instruction ℕ))) (l : List (Condition ℕ)) → length ts ≤ 4 → fault_keeps ts l ≡ true → line_sound l ≡ true
 unfolding line_sound
 line_in ts l few h =
     let parts = fault_parts ts l h in
@@ -62,7 +62,7 @@ line_in ts l few h =
 pub lines_sound : (p : Program) → all line_sound (lines_of p) ≡ true
 lines_sound p = all_weaker (fault_keeps p.threads) line_sound (λ l. line_in p.threads l (few_threads p)) p.faults (kept p).aim
 
-sound_conditions : (l : List Condition) → line_sound l ≡ true → all condition_sound l ≡ true
+sound_conditions : (l : List (Condition ℕ)) → line_sound l ≡ true → all condition_sound l ≡ true
 unfolding line_sound
 sound_conditions l h = (and_parts _ (all condition_sound l) h).1
 

@@ -19,7 +19,7 @@ use Rattle.listing.proofs.Pairs.{AsLong, pairwise_append}
 use Rattle.listing.proofs.WordLines.{read_words}
 
 -- before the bound there is nothing else
-abbrev pub Started : Option ℕ → List (List Instruction) → List (List Condition) → Type 0
+abbrev pub Started : Option ℕ → List (List (Instruction ℕ)) → List (List (Condition ℕ)) → Type 0
 Started None ts fs = (ts ≡ []) × (fs ≡ [])
 Started (Some k) ts fs = Unit {0}
 
@@ -55,7 +55,7 @@ nothing_sound =
 pub no_thread : (p : Progress) → Sound p → p.bound ≡ None → some p.threads ≡ false
 no_thread p s e = ap some (subst (λ o. Started o p.threads p.faults) e s.started).0
 
-pub grown_fit : (ts : List (List Instruction)) (i : Instruction) → last_length ts < 16 → instruction_fits i ≡ true → all thread_fits ts ≡ true → all thread_fits (grown ts i) ≡ true
+pub grown_fit : (ts : List (List (Instruction ℕ))) (i : Instruction ℕ) → last_length ts < 16 → instruction_fits i ≡ true → all thread_fits ts ≡ true → all thread_fits (grown ts i) ≡ true
 grown_fit [] i short fits h = refl
 grown_fit (t ∷ []) i short fits h =
     let parts = and_parts (leb (length t) 16) (all instruction_fits t) (and_parts (thread_fits t) true h).0 in
@@ -65,12 +65,12 @@ grown_fit (t ∷ u ∷ ts) i short fits h =
     and_from _ _ parts.0 (grown_fit (u ∷ ts) i short fits parts.1)
 
 -- where the bound has been read
-bound_read : (o : Option ℕ) (ts : List (List Instruction)) (fs : List (List Condition)) → is_some o ≡ true → Started o ts fs
+bound_read : (o : Option ℕ) (ts : List (List (Instruction ℕ))) (fs : List (List (Condition ℕ))) → is_some o ≡ true → Started o ts fs
 bound_read None ts fs h = cc
 bound_read (Some k) ts fs h = tt
 
 -- where a thread has been read
-thread_read : (o : Option ℕ) (ts us : List (List Instruction)) (fs : List (List Condition)) → some ts ≡ true → Started o ts fs → Started o us fs
+thread_read : (o : Option ℕ) (ts us : List (List (Instruction ℕ))) (fs : List (List (Condition ℕ))) → some ts ≡ true → Started o ts fs → Started o us fs
 thread_read None ts us fs h s = cc
 thread_read (Some k) ts us fs h s = tt
 

@@ -52,7 +52,7 @@ no_line ([] ∷ wss) p n s = no_line wss p (n + 1) s
 no_line ((w ∷ ws) ∷ wss) p n s = absurd s
 
 -- what has been read
-record Reached (k : ℕ) (ts : List (List Instruction)) (fs : List (List Condition)) (p : Progress) : Type 0 where
+record Reached (k : ℕ) (ts : List (List (Instruction ℕ))) (fs : List (List (Condition ℕ))) (p : Progress) : Type 0 where
   bound : p.bound ≡ Some k
   threads : p.threads ≡ ts
   faults : p.faults ≡ fs
@@ -63,7 +63,7 @@ onward_then p n wss rs P o ss Q f =
     let u = f o.to o.at o.left o.holds o.spelled in
     record { to = u.to; at = u.at; left = u.left; same = o.same ∙ u.same; spelled = u.spelled; holds = u.holds }
 
-faults_read : (fs done : List (List Condition)) (p : Progress) (n : ℕ) (wss : List (List (List ℕ))) (k : ℕ) (ts : List (List Instruction)) → Reached k ts done p
+faults_read : (fs done : List (List (Condition ℕ))) (p : Progress) (n : ℕ) (wss : List (List (List ℕ))) (k : ℕ) (ts : List (List (Instruction ℕ))) → Reached k ts done p
     → length done + length fs ≤ 8 → all fault_fits fs ≡ true → Pairwise (Pairwise Spelled) (map fault_row fs) (with_words wss) → Onward p n wss [] (Reached k ts (done ++ fs))
 faults_read [] done p n wss k ts r few fit s =
     record {
@@ -87,7 +87,7 @@ faults_read (f ∷ fs) done p n wss k ts r few fit s =
     (record { bound = ap (λ q. q.bound) h.1 ∙ r.bound; threads = ap (λ q. q.threads) h.1 ∙ r.threads; faults = ap (λ q. q.faults) h.1 ∙ ap (λ gs. gs ++ f ∷ []) r.faults })
     (rw length_push (omega arith)) fits.1 v))
 
-instructions_read : (is l : List Instruction) (done : List (List Instruction)) (p : Progress) (n : ℕ) (wss : List (List (List ℕ))) (k : ℕ) (rest : List (List Item)) → Reached k (done ++ l ∷ []) [] p
+instructions_read : (is l : List (Instruction ℕ)) (done : List (List (Instruction ℕ))) (p : Progress) (n : ℕ) (wss : List (List (List ℕ))) (k : ℕ) (rest : List (List Item)) → Reached k (done ++ l ∷ []) [] p
     → length l + length is ≤ 16 → together done + (length l + length is) ≤ 32 → all instruction_fits is ≡ true
     → Pairwise (Pairwise Spelled) (map instruction_items is ++ rest) (with_words wss) → Onward p n wss rest (Reached k (done ++ (l ++ is) ∷ []) [])
 instructions_read [] l done p n wss k rest r short few fit s =
@@ -117,7 +117,7 @@ instructions_read (i ∷ is) l done p n wss k rest r short few fit s =
     })
     (rw length_push (omega arith)) (rw length_push (omega arith)) fits.1 v))
 
-threads_read : (ts done : List (List Instruction)) (p : Progress) (n : ℕ) (wss : List (List (List ℕ))) (k : ℕ) (rest : List (List Item)) → Reached k done [] p
+threads_read : (ts done : List (List (Instruction ℕ))) (p : Progress) (n : ℕ) (wss : List (List (List ℕ))) (k : ℕ) (rest : List (List Item)) → Reached k done [] p
     → length done + length ts ≤ 4 → together done + together ts ≤ 32 → all thread_keeps ts ≡ true
     → Pairwise (Pairwise Spelled) (flat_map thread_rows ts ++ rest) (with_words wss) → Onward p n wss rest (Reached k (done ++ ts) [])
 threads_read [] done p n wss k rest r short few keep s =
@@ -152,10 +152,10 @@ threads_read (t ∷ ts) done p n wss k rest r short few keep s =
     (λ q m vss reached v. subst (λ us. Onward q m vss rest (Reached k us [])) (append_assoc done (t ∷ []) ts)
     (threads_read ts (done ++ t ∷ []) q m vss k rest reached (rw length_push (omega arith)) (rw together_push (omega arith)) keeps.1 v)))
 
-thread_has_some : (t : List Instruction) → thread_keeps t ≡ true → some t ≡ true
+thread_has_some : (t : List (Instruction ℕ)) → thread_keeps t ≡ true → some t ≡ true
 thread_has_some t h = has_some t 16 (thread_parts t h).0
 
-fault_fit : (ts : List (List Instruction)) (cs : List Condition) → fault_keeps ts cs ≡ true → fault_fits cs ≡ true
+fault_fit : (ts : List (List (Instruction ℕ))) (cs : List (Condition ℕ)) → fault_keeps ts cs ≡ true → fault_fits cs ≡ true
 fault_fit ts cs h = let parts = fault_parts ts cs h in and_from _ _ parts.0 parts.1
 
 finishes : (c : Code) (p : Progress) → Within c → Reached c.bound c.threads c.faults p → finished p ≡ Ok c

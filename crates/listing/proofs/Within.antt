@@ -1,5 +1,5 @@
 -- The limits of a listing, part by part. Assumes nothing.
-use Rattle.std.proofs.Common.{◌≡◌, ◌≤◌, Bool, true, ◌&&◌, leb, List, length}
+use Rattle.std.proofs.Common.{ℕ, ◌≡◌, ◌≤◌, Bool, true, ◌&&◌, leb, List, length}
 use Rattle.std.proofs.lemmas.Bool.{and_parts, leb-true}
 use Rattle.listing.specs.declared.code.Condition.{Condition}
 use Rattle.listing.specs.declared.code.Instruction.{Instruction}
@@ -15,10 +15,10 @@ three_parts x y z h =
     let b = and_parts y z a.1 in
     (a.0, b.0, b.1)
 
-pub thread_parts : (t : List Instruction) → thread_keeps t ≡ true → (between 1 16 (length t) ≡ true) × (all instruction_fits t ≡ true) × (jumps_there t ≡ true)
+pub thread_parts : (t : List (Instruction ℕ)) → thread_keeps t ≡ true → (between 1 16 (length t) ≡ true) × (all instruction_fits t ≡ true) × (jumps_there t ≡ true)
 thread_parts t h = three_parts (between 1 16 (length t)) (all instruction_fits t) (jumps_there t) h
 
-pub fault_parts : (ts : List (List Instruction)) (cs : List Condition) → fault_keeps ts cs ≡ true → (between 1 6 (length cs) ≡ true) × (all condition_fits cs ≡ true) × (all (condition_there ts) cs ≡ true)
+pub fault_parts : (ts : List (List (Instruction ℕ))) (cs : List (Condition ℕ)) → fault_keeps ts cs ≡ true → (between 1 6 (length cs) ≡ true) × (all condition_fits cs ≡ true) × (all (condition_there ts) cs ≡ true)
 fault_parts ts cs h = three_parts (between 1 6 (length cs)) (all condition_fits cs) (all (condition_there ts) cs) h
 
 pub record Within (c : Code) : Type 0 where

@@ -171,13 +171,13 @@ pub operand_reads : Reads operand operand_item operand_fits
 unfolding operand
 operand_reads = record {
   only = λ w.
-      let P : Operand → Type 0 = λ e. Spelled (operand_item e) w × (operand_fits e ≡ true) in
+      let P : Operand ℕ → Type 0 = λ e. Spelled (operand_item e) w × (operand_fits e ≡ true) in
       only_cond P (all is_digit w) (apply (means operands.Value) (value w)) (apply (means operands.Register) (register w))
       (λ digits. only_map P operands.Value (value w) ((upto_reads 15).only w))
       (λ other. only_map P operands.Register (register w) (register_reads.only w));
   every = operand_every;
 }
   where
-    operand_every : (w : List ℕ) (e : Operand) → operand_fits e ≡ true → Spelled (operand_item e) w → operand w ≡ means e
+    operand_every : (w : List ℕ) (e : Operand ℕ) → operand_fits e ≡ true → Spelled (operand_item e) w → operand w ≡ means e
     operand_every w (operands.Value n) fits writes = rw ((written_value writes).0, (upto_reads 15).every w n fits writes) refl
     operand_every w (operands.Register r) fits same = rw same (ap (apply (means operands.Register)) (register_named r))

@@ -30,19 +30,19 @@ bound_rows (Some k) = line_items (bound_line k) ∷ []
 abbrev progress_rows : Progress → List (List Item)
 progress_rows p = bound_rows p.bound ++ (flat_map thread_rows p.threads ++ map fault_row p.faults)
 
-bound_more : (o : Option ℕ) (ts : List (List Instruction)) (fs : List (List Condition)) (k : ℕ) → Started o ts fs → not (is_some o) ≡ true
+bound_more : (o : Option ℕ) (ts : List (List (Instruction ℕ))) (fs : List (List (Condition ℕ))) (k : ℕ) → Started o ts fs → not (is_some o) ≡ true
     → bound_rows (Some k) ++ (flat_map thread_rows ts ++ map fault_row fs) ≡ (bound_rows o ++ (flat_map thread_rows ts ++ map fault_row fs)) ++ line_items (bound_line k) ∷ []
 bound_more None ts fs k s h = rw (s.0, s.1) refl
 bound_more (Some j) ts fs k s h = cc
 
-grown_rows : (ts : List (List Instruction)) (i : Instruction) → some ts ≡ true → flat_map thread_rows (grown ts i) ≡ flat_map thread_rows ts ++ instruction_items i ∷ []
+grown_rows : (ts : List (List (Instruction ℕ))) (i : Instruction ℕ) → some ts ≡ true → flat_map thread_rows (grown ts i) ≡ flat_map thread_rows ts ++ instruction_items i ∷ []
 grown_rows [] i h = cc
 grown_rows (t ∷ []) i h =
     append-nil (thread_rows (t ++ i ∷ []))
     ∙ (ap (λ r. line_items thread_line ∷ r) (map_push instruction_items t i) ∙ ap (λ rs. rs ++ instruction_items i ∷ []) (sym (append-nil (thread_rows t))))
 grown_rows (t ∷ u ∷ ts) i h = ap (λ r. thread_rows t ++ r) (grown_rows (u ∷ ts) i refl) ∙ sym (append_assoc (thread_rows t) (flat_map thread_rows (u ∷ ts)) (instruction_items i ∷ []))
 
-before_faults : (b j j' : List (List Item)) (r : List Item) (fs : List (List Condition)) → not (some fs) ≡ true → j' ≡ j ++ r ∷ [] → b ++ (j' ++ map fault_row fs) ≡ (b ++ (j ++ map fault_row fs)) ++ r ∷ []
+before_faults : (b j j' : List (List Item)) (r : List Item) (fs : List (List (Condition ℕ))) → not (some fs) ≡ true → j' ≡ j ++ r ∷ [] → b ++ (j' ++ map fault_row fs) ≡ (b ++ (j ++ map fault_row fs)) ++ r ∷ []
 before_faults b j j' r fs none e = rw (none_there fs none, e) (simp (append-nil, append_assoc))
 
 rows_more : (p : Progress) (n : ℕ) (l : Line) → Started p.bound p.threads p.faults → stands p l ≡ true → progress_rows (with_line p n l) ≡ progress_rows p ++ line_items l ∷ []
@@ -95,16 +95,16 @@ finished_from p c h =
     let e = targeted_from p b.0 c (target_failing p) b.3 in
     record { filled_threads = a.0; bound = b.0; bound_is = b.1; threads = d.0; faults = d.1; targets = e.0; is = e.1 }
 
-abbrev filled_fits : List Instruction → Bool
+abbrev filled_fits : List (Instruction ℕ) → Bool
 filled_fits t = between 1 16 (length t) && all instruction_fits t
 
-filled_thread : (t : List Instruction) → some t ≡ true → thread_fits t ≡ true → filled_fits t ≡ true
+filled_thread : (t : List (Instruction ℕ)) → some t ≡ true → thread_fits t ≡ true → filled_fits t ≡ true
 filled_thread t h k = let parts = and_parts (leb (length t) 16) (all instruction_fits t) k in and_from _ _ (some_between 16 t h (leb-true _ _ parts.0)) parts.1
 
-whole_thread : (t : List Instruction) → filled_fits t ≡ true → jumps_there t ≡ true → thread_keeps t ≡ true
+whole_thread : (t : List (Instruction ℕ)) → filled_fits t ≡ true → jumps_there t ≡ true → thread_keeps t ≡ true
 whole_thread t h k = let parts = and_parts (between 1 16 (length t)) (all instruction_fits t) h in and_from _ _ parts.0 (and_from _ _ parts.1 k)
 
-whole_fault : (ts : List (List Instruction)) (cs : List Condition) → fault_fits cs ≡ true → all (condition_there ts) cs ≡ true → fault_keeps ts cs ≡ true
+whole_fault : (ts : List (List (Instruction ℕ))) (cs : List (Condition ℕ)) → fault_fits cs ≡ true → all (condition_there ts) cs ≡ true → fault_keeps ts cs ≡ true
 whole_fault ts cs h k = let parts = and_parts (between 1 6 (length cs)) (all condition_fits cs) h in and_from _ _ parts.0 (and_from _ _ parts.1 k)
 
 finished_keeps : (p : Progress) (c : Code) → Sound p → Finished p c → keeps_limits c ≡ true

@@ -40,7 +40,7 @@ slot register.R3 = 3
 abbrev pub length_of : Program → ℕ → ℕ
 length_of p t = length (slice_index_or p.threads t [])
 
-abbrev pub fetched : Program → ℕ → ℕ → Option Instruction
+abbrev pub fetched : Program → ℕ → ℕ → Option (Instruction ℕ)
 fetched p t at = slice_get (slice_index_or p.threads t []) at
 
 abbrev pub place_of : Program → ℕ → ℕ → ℕ
@@ -52,21 +52,21 @@ places p = place_of p 4 0
 abbrev pub thread_at : Program → ℕ → ℕ
 thread_at p n = cond (nat_lt n (place_of p 1 0)) 0 (cond (nat_lt n (place_of p 2 0)) 1 (cond (nat_lt n (place_of p 3 0)) 2 3))
 
-abbrev pub lines_of : Program → List (List Condition)
+abbrev pub lines_of : Program → List (List (Condition ℕ))
 lines_of p = p.faults
 
-abbrev pub condition_sound : Condition → Bool
+abbrev pub condition_sound : Condition ℕ → Bool
 condition_sound (condition.At t n) = nat_lt t 4
 condition_sound (condition.Holds t r d) = nat_lt t 4
 condition_sound (condition.Memory v d) = true
 
-unfoldable pub line_sound : List Condition → Bool
+unfoldable pub line_sound : List (Condition ℕ) → Bool
 line_sound l = nat_le (length l) 6 && all condition_sound l
 
 pub record Code : Type 0 where
   pub bound : ℕ
-  pub threads : List (List Instruction)
-  pub faults : List (List Condition)
+  pub threads : List (List (Instruction ℕ))
+  pub faults : List (List (Condition ℕ))
 
 abbrev pub code_of : Program → Code
 code_of p = record { bound = p.bound; threads = p.threads; faults = p.faults }

@@ -18,7 +18,7 @@ pub record Example : Type 0 where
   pub text : List ℕ
   pub answer : Result Code Refusal
 
-abbrev one_thread : ℕ → List Instruction → Code
+abbrev one_thread : ℕ → List (Instruction ℕ) → Code
 one_thread k is = record { bound = k; threads = is ∷ []; faults = (condition.Memory variable.A 2 ∷ []) ∷ [] }
 
 abbrev pub plain : ℕ → ℕ → Code

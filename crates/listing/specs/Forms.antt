@@ -69,7 +69,7 @@ thread w = number 0 3 w
 abbrev pub target : List ℕ → Says ℕ
 target w = number 0 16 w
 
-unfoldable pub operand : List ℕ → Says Operand
+unfoldable pub operand : List ℕ → Says (Operand ℕ)
 operand w = cond (all is_digit w) (apply (means operands.Value) (value w)) (apply (means operands.Register) (register w))
 
 abbrev pub first : {X : Type 0} → (List ℕ → Says X) → List (List ℕ) → Says X
@@ -97,7 +97,7 @@ abbrev pub four : {W X Y Z V : Type 0} → (W → X → Y → Z → V) → (List
 four f p q r s ws = apply (three f p q r ws) (first s (rest (rest (rest ws))))
 
 -- the forms of an instruction, by its first word
-unfoldable pub instruction : List ℕ → List (List ℕ) → Says Instruction
+unfoldable pub instruction : List ℕ → List (List ℕ) → Says (Instruction ℕ)
 instruction m ws =
     cond (same_word (codes "store") m) (ended (rest (rest ws)) (two instructions.Store variable operand ws))
     (cond (same_word (codes "load") m) (ended (rest (rest ws)) (two instructions.Load register variable ws))
@@ -112,7 +112,7 @@ instruction m ws =
 abbrev pub more : {X : Type 0} → Says X → Says (List X) → Says (List X)
 more x xs = apply (apply (means ◌∷◌) x) xs
 
-unfoldable pub conditions : ℕ → List (List ℕ) → Says (List Condition)
+unfoldable pub conditions : ℕ → List (List ℕ) → Says (List (Condition ℕ))
 conditions zero ws = ended ws (means [])
 conditions (suc n) [] = means []
 conditions (suc n) (k ∷ ws) =
@@ -120,18 +120,18 @@ conditions (suc n) (k ∷ ws) =
     (cond (same_word (codes "reg") k) (more (three condition.Holds thread register value ws) (conditions n (rest (rest (rest ws)))))
     (cond (same_word (codes "mem") k) (more (two condition.Memory variable value ws) (conditions n (rest (rest ws)))) no_form))
 
-abbrev pub all_conditions : List (List ℕ) → Says (List Condition)
+abbrev pub all_conditions : List (List ℕ) → Says (List (Condition ℕ))
 all_conditions ws = conditions (length ws) ws
 
-abbrev pub fault : List (List ℕ) → Says (List Condition)
+abbrev pub fault : List (List ℕ) → Says (List (Condition ℕ))
 fault [] = no_form
 fault (w ∷ ws) = all_conditions (w ∷ ws)
 
 pub data Line : Type 0 where
   bound_line : ℕ → Line
   thread_line : Line
-  instruction_line : Instruction → Line
-  fault_line : List Condition → Line
+  instruction_line : Instruction ℕ → Line
+  fault_line : List (Condition ℕ) → Line
 
 abbrev pub bound_form : List (List ℕ) → Says Line
 bound_form ws = ended (rest ws) (one bound_line bound ws)

@@ -90,14 +90,14 @@ pub record FirstFailing {X : Type 0} (test : X → Bool) (ns : List ℕ) (xs : L
   pub stands : (d : ℕ) → slice_index_or ns (length before) d ≡ n
 
 -- each jump of a thread goes to a place of it, or to its end
-abbrev pub jumps_there : List Instruction → Bool
+abbrev pub jumps_there : List (Instruction ℕ) → Bool
 jumps_there is = all (jump_within (length is)) is
 
 -- n is the first line with a jump past its thread's length
 pub record FirstJumpAstray (p : Progress) (n : ℕ) : Type 0 where
-  pub before : List (List Instruction)
-  pub astray : List Instruction
-  pub after : List (List Instruction)
+  pub before : List (List (Instruction ℕ))
+  pub astray : List (Instruction ℕ)
+  pub after : List (List (Instruction ℕ))
   pub are : p.threads ≡ before ++ astray ∷ after
   pub pass : all jumps_there before ≡ true
   pub fails : FirstFailing (jump_within (length astray)) (slice_index_or p.instruction_lines (length before) []) astray n

@@ -12,3 +12,4 @@ pub mod Spelling
 pub mod Taking
 pub mod Values
 pub mod Words
+pub mod Written

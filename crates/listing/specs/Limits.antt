@@ -32,13 +32,13 @@ abbrev pub bound_fits : Option ℕ → Bool
 bound_fits None = true
 bound_fits (Some bound) = between 1 4 bound
 
-abbrev pub thread_fits : List Instruction → Bool
+abbrev pub thread_fits : List (Instruction ℕ) → Bool
 thread_fits t = nat_le (length t) 16 && all instruction_fits t
 
-abbrev pub fault_fits : List Condition → Bool
+abbrev pub fault_fits : List (Condition ℕ) → Bool
 fault_fits cs = between 1 6 (length cs) && all condition_fits cs
 
-abbrev pub jump_within : ℕ → Instruction → Bool
+abbrev pub jump_within : ℕ → Instruction ℕ → Bool
 jump_within length (instruction.Store v e) = true
 jump_within length (instruction.Load r v) = true
 jump_within length (instruction.Set r e) = true
@@ -49,18 +49,18 @@ jump_within length (instruction.Jump n) = nat_le n length
 jump_within length (instruction.JumpIfEqual r e n) = nat_le n length
 jump_within length (instruction.JumpUnlessEqual r e n) = nat_le n length
 
-abbrev pub condition_there : List (List Instruction) → Condition → Bool
+abbrev pub condition_there : List (List (Instruction ℕ)) → Condition ℕ → Bool
 condition_there ts (condition.At t n) = nat_lt t (length ts) && nat_le n (length (slice_index_or ts t []))
 condition_there ts (condition.Holds t r d) = nat_lt t (length ts)
 condition_there ts (condition.Memory v d) = true
 
-abbrev pub thread_keeps : List Instruction → Bool
+abbrev pub thread_keeps : List (Instruction ℕ) → Bool
 thread_keeps is = between 1 16 (length is) && (all instruction_fits is && all (jump_within (length is)) is)
 
-abbrev pub fault_keeps : List (List Instruction) → List Condition → Bool
+abbrev pub fault_keeps : List (List (Instruction ℕ)) → List (Condition ℕ) → Bool
 fault_keeps ts cs = between 1 6 (length cs) && (all condition_fits cs && all (condition_there ts) cs)
 
-unfoldable pub within_limits : ℕ → List (List Instruction) → List (List Condition) → Bool
+unfoldable pub within_limits : ℕ → List (List (Instruction ℕ)) → List (List (Condition ℕ)) → Bool
 within_limits bound threads faults =
     between 1 4 bound && ((between 1 4 (length threads) && (all thread_keeps threads && nat_le (together threads) 32))
     && (between 1 8 (length faults) && all (fault_keeps threads) faults))

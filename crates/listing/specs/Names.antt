@@ -17,12 +17,9 @@ use Rattle.listing.specs.declared.code.Instruction.{Instruction}
 use Rattle.listing.specs.declared.code.Instruction.TheVariants as instruction
 use Rattle.listing.specs.declared.code.Operand.{Operand}
 use Rattle.listing.specs.declared.code.Operand.TheVariants as operand
-use Rattle.listing.specs.declared.lines.WrittenCondition.{WrittenCondition}
-use Rattle.listing.specs.declared.lines.WrittenCondition.TheVariants as wcondition
-use Rattle.listing.specs.declared.lines.WrittenInstruction.{WrittenInstruction}
-use Rattle.listing.specs.declared.lines.WrittenInstruction.TheVariants as winstruction
-use Rattle.listing.specs.declared.lines.WrittenOperand.{WrittenOperand}
-use Rattle.listing.specs.declared.lines.WrittenOperand.TheVariants as woperand
+use Rattle.listing.specs.Written.{WrittenCondition}
+use Rattle.listing.specs.Written.{WrittenInstruction}
+use Rattle.listing.specs.Written.{WrittenOperand}
 use Rattle.listing.specs.declared.code.Register.{Register}
 use Rattle.listing.specs.declared.code.Register.TheVariants as register
 use Rattle.listing.specs.declared.code.Variable.{Variable}
@@ -91,25 +88,25 @@ abbrev pub NamesNumber : List ℕ → Bor (List ℕ) → Type 0
 NamesNumber word digits = digits.now ≡ word
 
 abbrev pub NamesOperand : List ℕ → WrittenOperand → Type 0
-NamesOperand word (woperand.Digits digits) = digits.now ≡ word
-NamesOperand word (woperand.Register r) = NamesRegister word r
+NamesOperand word (operand.Value digits) = digits.now ≡ word
+NamesOperand word (operand.Register r) = NamesRegister word r
 
-abbrev pub operand_of : WrittenOperand → Operand
-operand_of (woperand.Digits ds) = operand.Value (decimal ds.now)
-operand_of (woperand.Register r) = operand.Register r
+abbrev pub operand_of : WrittenOperand → Operand ℕ
+operand_of (operand.Value ds) = operand.Value (decimal ds.now)
+operand_of (operand.Register r) = operand.Register r
 
-abbrev pub instruction_of : WrittenInstruction → Instruction
-instruction_of (winstruction.Store v e) = instruction.Store v (operand_of e)
-instruction_of (winstruction.Load r v) = instruction.Load r v
-instruction_of (winstruction.Set r e) = instruction.Set r (operand_of e)
-instruction_of (winstruction.Add r e) = instruction.Add r (operand_of e)
-instruction_of (winstruction.Cas r v old new) = instruction.Cas r v (operand_of old) (operand_of new)
-instruction_of winstruction.Fence = instruction.Fence
-instruction_of (winstruction.Jump n) = instruction.Jump (decimal n.now)
-instruction_of (winstruction.JumpIfEqual r e n) = instruction.JumpIfEqual r (operand_of e) (decimal n.now)
-instruction_of (winstruction.JumpUnlessEqual r e n) = instruction.JumpUnlessEqual r (operand_of e) (decimal n.now)
+abbrev pub instruction_of : WrittenInstruction → Instruction ℕ
+instruction_of (instruction.Store v e) = instruction.Store v (operand_of e)
+instruction_of (instruction.Load r v) = instruction.Load r v
+instruction_of (instruction.Set r e) = instruction.Set r (operand_of e)
+instruction_of (instruction.Add r e) = instruction.Add r (operand_of e)
+instruction_of (instruction.Cas r v old new) = instruction.Cas r v (operand_of old) (operand_of new)
+instruction_of instruction.Fence = instruction.Fence
+instruction_of (instruction.Jump n) = instruction.Jump (decimal n.now)
+instruction_of (instruction.JumpIfEqual r e n) = instruction.JumpIfEqual r (operand_of e) (decimal n.now)
+instruction_of (instruction.JumpUnlessEqual r e n) = instruction.JumpUnlessEqual r (operand_of e) (decimal n.now)
 
-abbrev pub condition_of : WrittenCondition → Condition
-condition_of (wcondition.At t n) = condition.At (decimal t.now) (decimal n.now)
-condition_of (wcondition.Holds t r d) = condition.Holds (decimal t.now) r (decimal d.now)
-condition_of (wcondition.Memory v d) = condition.Memory v (decimal d.now)
+abbrev pub condition_of : WrittenCondition → Condition ℕ
+condition_of (condition.At t n) = condition.At (decimal t.now) (decimal n.now)
+condition_of (condition.Holds t r d) = condition.Holds (decimal t.now) r (decimal d.now)
+condition_of (condition.Memory v d) = condition.Memory v (decimal d.now)

@@ -36,8 +36,8 @@ refusal why n = record { reason = why; line = n }
 
 pub record Progress : Type 0 where
   pub bound : Option ℕ
-  pub threads : List (List Instruction)
-  pub faults : List (List Condition)
+  pub threads : List (List (Instruction ℕ))
+  pub faults : List (List (Condition ℕ))
   pub thread_lines : List ℕ
   pub instruction_lines : List (List ℕ)
   pub fault_lines : List ℕ
@@ -152,7 +152,7 @@ or_else None o = o
 or_else (Some n) o = Some n
 
 -- the first line with a jump past its thread's length
-abbrev pub jump_failing : List (List ℕ) → List (List Instruction) → Option ℕ
+abbrev pub jump_failing : List (List ℕ) → List (List (Instruction ℕ)) → Option ℕ
 jump_failing [] ts = None
 jump_failing (ns ∷ nss) [] = None
 jump_failing (ns ∷ nss) (t ∷ ts) = or_else (first_failing (jump_within (length t)) ns t) (jump_failing nss ts)

@@ -42,11 +42,11 @@ Pairwise R [] (y ∷ ys) = ⊥
 Pairwise R (x ∷ xs) [] = ⊥
 Pairwise R (x ∷ xs) (y ∷ ys) = R x y × Pairwise R xs ys
 
-abbrev pub operand_item : Operand → Item
+abbrev pub operand_item : Operand ℕ → Item
 operand_item (operand.Value n) = number n
 operand_item (operand.Register r) = name (register_word r)
 
-abbrev pub instruction_items : Instruction → List Item
+abbrev pub instruction_items : Instruction ℕ → List Item
 instruction_items (instruction.Store v e) = name (codes "store") ∷ name (variable_word v) ∷ operand_item e ∷ []
 instruction_items (instruction.Load r v) = name (codes "load") ∷ name (register_word r) ∷ name (variable_word v) ∷ []
 instruction_items (instruction.Set r e) = name (codes "set") ∷ name (register_word r) ∷ operand_item e ∷ []
@@ -57,15 +57,15 @@ instruction_items (instruction.Jump n) = name (codes "jump") ∷ number n ∷ []
 instruction_items (instruction.JumpIfEqual r e n) = name (codes "jeq") ∷ name (register_word r) ∷ operand_item e ∷ number n ∷ []
 instruction_items (instruction.JumpUnlessEqual r e n) = name (codes "jne") ∷ name (register_word r) ∷ operand_item e ∷ number n ∷ []
 
-abbrev pub condition_items : Condition → List Item
+abbrev pub condition_items : Condition ℕ → List Item
 condition_items (condition.At t n) = name (codes "at") ∷ number t ∷ number n ∷ []
 condition_items (condition.Holds t r d) = name (codes "reg") ∷ number t ∷ name (register_word r) ∷ number d ∷ []
 condition_items (condition.Memory v d) = name (codes "mem") ∷ name (variable_word v) ∷ number d ∷ []
 
-abbrev pub thread_rows : List Instruction → List (List Item)
+abbrev pub thread_rows : List (Instruction ℕ) → List (List Item)
 thread_rows is = (name (codes "thread") ∷ []) ∷ map instruction_items is
 
-abbrev pub fault_row : List Condition → List Item
+abbrev pub fault_row : List (Condition ℕ) → List Item
 fault_row cs = name (codes "fault") ∷ flat_map condition_items cs
 
 abbrev pub rows : Code → List (List Item)

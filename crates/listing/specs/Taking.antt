@@ -30,12 +30,9 @@ use Rattle.listing.specs.declared.lines.Line.{Line as Form}
 use Rattle.listing.specs.declared.lines.Line.TheVariants as forms
 use Rattle.listing.specs.declared.lines.Mnemonic.{Mnemonic}
 use Rattle.listing.specs.declared.lines.Mnemonic.TheVariants as mnemonic
-use Rattle.listing.specs.declared.lines.WrittenCondition.{WrittenCondition}
-use Rattle.listing.specs.declared.lines.WrittenCondition.TheVariants as wcondition
-use Rattle.listing.specs.declared.lines.WrittenInstruction.{WrittenInstruction}
-use Rattle.listing.specs.declared.lines.WrittenInstruction.TheVariants as winstruction
-use Rattle.listing.specs.declared.lines.WrittenOperand.{WrittenOperand}
-use Rattle.listing.specs.declared.lines.WrittenOperand.TheVariants as woperand
+use Rattle.listing.specs.Written.{WrittenCondition}
+use Rattle.listing.specs.Written.{WrittenInstruction}
+use Rattle.listing.specs.Written.{WrittenOperand}
 use Rattle.listing.specs.declared.refusal.Reason.TheVariants.{NoForm, NumberOutOfRange, TooMany}
 use Rattle.listing.specs.declared.refusal.Refusal.{Refusal}
 use Rattle.listing.specs.Forms.{Says, no_form, out_of_range, means, apply, first, rest, ended, more, instruction, all_conditions, Line, bound_line, thread_line, instruction_line, fault_form, form}
@@ -66,25 +63,25 @@ lift (Some f) (Some x) = Some (f x)
 abbrev pub number_read : ℕ → ℕ → Bor (List ℕ) → Option ℕ
 number_read low high digits = in_range low high (value_of digits.now)
 
-abbrev pub operand_read : WrittenOperand → Option Operand
-operand_read (woperand.Digits ds) = lift (Some (λ x. operands.Value x)) (number_read 0 15 ds)
-operand_read (woperand.Register r) = Some (operands.Register r)
+abbrev pub operand_read : WrittenOperand → Option (Operand ℕ)
+operand_read (operands.Value ds) = lift (Some (λ x. operands.Value x)) (number_read 0 15 ds)
+operand_read (operands.Register r) = Some (operands.Register r)
 
-abbrev pub instruction_read : WrittenInstruction → Option Instruction
-instruction_read (winstruction.Store v e) = lift (Some (λ x. instructions.Store v x)) (operand_read e)
-instruction_read (winstruction.Load r v) = Some (instructions.Load r v)
-instruction_read (winstruction.Set r e) = lift (Some (λ x. instructions.Set r x)) (operand_read e)
-instruction_read (winstruction.Add r e) = lift (Some (λ x. instructions.Add r x)) (operand_read e)
-instruction_read (winstruction.Cas r v old new) = lift (lift (Some (λ x y. instructions.Cas r v x y)) (operand_read old)) (operand_read new)
-instruction_read winstruction.Fence = Some instructions.Fence
-instruction_read (winstruction.Jump n) = lift (Some (λ x. instructions.Jump x)) (number_read 0 16 n)
-instruction_read (winstruction.JumpIfEqual r e n) = lift (lift (Some (λ x y. instructions.JumpIfEqual r x y)) (operand_read e)) (number_read 0 16 n)
-instruction_read (winstruction.JumpUnlessEqual r e n) = lift (lift (Some (λ x y. instructions.JumpUnlessEqual r x y)) (operand_read e)) (number_read 0 16 n)
+abbrev pub instruction_read : WrittenInstruction → Option (Instruction ℕ)
+instruction_read (instructions.Store v e) = lift (Some (λ x. instructions.Store v x)) (operand_read e)
+instruction_read (instructions.Load r v) = Some (instructions.Load r v)
+instruction_read (instructions.Set r e) = lift (Some (λ x. instructions.Set r x)) (operand_read e)
+instruction_read (instructions.Add r e) = lift (Some (λ x. instructions.Add r x)) (operand_read e)
+instruction_read (instructions.Cas r v old new) = lift (lift (Some (λ x y. instructions.Cas r v x y)) (operand_read old)) (operand_read new)
+instruction_read instructions.Fence = Some instructions.Fence
+instruction_read (instructions.Jump n) = lift (Some (λ x. instructions.Jump x)) (number_read 0 16 n)
+instruction_read (instructions.JumpIfEqual r e n) = lift (lift (Some (λ x y. instructions.JumpIfEqual r x y)) (operand_read e)) (number_read 0 16 n)
+instruction_read (instructions.JumpUnlessEqual r e n) = lift (lift (Some (λ x y. instructions.JumpUnlessEqual r x y)) (operand_read e)) (number_read 0 16 n)
 
-abbrev pub condition_read : WrittenCondition → Option Condition
-condition_read (wcondition.At t n) = lift (lift (Some (λ x y. condition.At x y)) (number_read 0 3 t)) (number_read 0 16 n)
-condition_read (wcondition.Holds t r d) = lift (lift (Some (λ x y. condition.Holds x r y)) (number_read 0 3 t)) (number_read 0 15 d)
-condition_read (wcondition.Memory v d) = lift (Some (λ x. condition.Memory v x)) (number_read 0 15 d)
+abbrev pub condition_read : WrittenCondition → Option (Condition ℕ)
+condition_read (condition.At t n) = lift (lift (Some (λ x y. condition.At x y)) (number_read 0 3 t)) (number_read 0 16 n)
+condition_read (condition.Holds t r d) = lift (lift (Some (λ x y. condition.Holds x r y)) (number_read 0 3 t)) (number_read 0 15 d)
+condition_read (condition.Memory v d) = lift (Some (λ x. condition.Memory v x)) (number_read 0 15 d)
 
 abbrev pub Valued : {X : Type 0} → Option X → ℕ → Result X Refusal → Type 0
 Valued o n (Ok x) = o ≡ Some x
@@ -154,10 +151,10 @@ FormedBy (Number bytes at) w (Ok l) = ⊥
 FormedBy (Number bytes at) w (Err e) = e ≡ refusal NoForm w.line
 
 -- what a fault line answers: its conditions, at most six, or the refusal of its line
-abbrev pub counted : ℕ → List Condition → Result (List Condition) Refusal
+abbrev pub counted : ℕ → List (Condition ℕ) → Result (List (Condition ℕ)) Refusal
 counted n cs = cond (nat_le (length cs) 6) (Ok cs) (Err (refusal TooMany n))
 
-abbrev pub fitted : ℕ → Says (List Condition) → Result (List Condition) Refusal
+abbrev pub fitted : ℕ → Says (List (Condition ℕ)) → Result (List (Condition ℕ)) Refusal
 fitted n no_form = Err (refusal NoForm n)
 fitted n out_of_range = Err (refusal NumberOutOfRange n)
 fitted n (means cs) = counted n cs

@@ -19,7 +19,8 @@ pub enum Variable {
     H,
 }
 
-// A trait for this `number` and a register's would need both bodies and both clauses all the same.
+// A trait for this `number` and a register's would need both bodies and both clauses all the same. By `as`, since the number
+// of a case is meant: a `From` would spell out the cases.
 impl Variable {
     // Its place in memory.
     pub fn number(self) -> usize
@@ -48,26 +49,28 @@ impl Register {
     }
 }
 
+// The numbers of an operand, an instruction and a condition are of any type: in a program they are values, in a line that is
+// being read the bytes of their digits.
 #[derive(Clone, Copy, PartialEq, Eq)]
-pub enum Operand {
-    Value(u8),
+pub enum Operand<N> {
+    Value(N),
     Register(Register),
 }
 
 #[derive(Clone, Copy, PartialEq, Eq)]
-pub enum Instruction {
-    Store(Variable, Operand),
+pub enum Instruction<N> {
+    Store(Variable, Operand<N>),
     Load(Register, Variable),
-    Set(Register, Operand),
-    Add(Register, Operand),
-    Cas(Register, Variable, Operand, Operand),
+    Set(Register, Operand<N>),
+    Add(Register, Operand<N>),
+    Cas(Register, Variable, Operand<N>, Operand<N>),
     Fence,
-    Jump(u8),
-    JumpIfEqual(Register, Operand, u8),
-    JumpUnlessEqual(Register, Operand, u8),
+    Jump(N),
+    JumpIfEqual(Register, Operand<N>, N),
+    JumpUnlessEqual(Register, Operand<N>, N),
 }
 
-impl Filler for Instruction {
+impl Filler for Instruction<u8> {
     ghost use Rattle.listing.specs.declared.code.Instruction.TheVariants.{Fence};
 
     ghost filler = { Fence };
@@ -78,13 +81,13 @@ impl Filler for Instruction {
 }
 
 #[derive(Clone, Copy, PartialEq, Eq)]
-pub enum Condition {
-    At(u8, u8),
-    Holds(u8, Register, u8),
-    Memory(Variable, u8),
+pub enum Condition<N> {
+    At(N, N),
+    Holds(N, Register, N),
+    Memory(Variable, N),
 }
 
-impl Filler for Condition {
+impl Filler for Condition<u8> {
     ghost use Rattle.listing.specs.declared.code.Condition.TheVariants.{At};
 
     ghost filler = { At 0 0 };
@@ -95,10 +98,10 @@ impl Filler for Condition {
 }
 
 // The instructions of one thread.
-pub type ThreadCode = Few<Instruction, MOST_IN_THREAD>;
+pub type ThreadCode = Few<Instruction<u8>, MOST_IN_THREAD>;
 
 // The conditions of one fault line.
-pub type FaultLine = Few<Condition, MOST_CONDITIONS>;
+pub type FaultLine = Few<Condition<u8>, MOST_CONDITIONS>;
 
 // How many instructions some threads have.
 pub(crate) fn together(threads: &[ThreadCode]) -> usize

@@ -16,33 +16,12 @@ use crate::code::{Condition, FaultLine, Instruction, Operand, Register, Variable
 use crate::lexer::{Token, Words};
 use crate::refusal::{Reason, Refusal};
 
-// What is written is apart from what is read in `code.rt`: one enum over the type of its numbers would put that type into
-// every clause that speaks of an instruction, in all crates above.
-#[derive(Clone, Copy)]
-pub enum WrittenOperand<'a> {
-    Digits(&'a [u8]),
-    Register(Register),
-}
+// What is written: each number is the bytes of its digits.
+pub type WrittenOperand<'a> = Operand<&'a [u8]>;
 
-#[derive(Clone, Copy)]
-pub enum WrittenInstruction<'a> {
-    Store(Variable, WrittenOperand<'a>),
-    Load(Register, Variable),
-    Set(Register, WrittenOperand<'a>),
-    Add(Register, WrittenOperand<'a>),
-    Cas(Register, Variable, WrittenOperand<'a>, WrittenOperand<'a>),
-    Fence,
-    Jump(&'a [u8]),
-    JumpIfEqual(Register, WrittenOperand<'a>, &'a [u8]),
-    JumpUnlessEqual(Register, WrittenOperand<'a>, &'a [u8]),
-}
+pub type WrittenInstruction<'a> = Instruction<&'a [u8]>;
 
-#[derive(Clone, Copy)]
-pub enum WrittenCondition<'a> {
-    At(&'a [u8], &'a [u8]),
-    Holds(&'a [u8], Register, &'a [u8]),
-    Memory(Variable, &'a [u8]),
-}
+pub type WrittenCondition<'a> = Condition<&'a [u8]>;
 
 // What a line with words is; of a fault line, the words are its conditions.
 #[derive(Clone, Copy)]
@@ -161,12 +140,12 @@ impl<'a> Words<'a> {
             return Err(Reason::NoForm.at(self.line));
         };
         match first {
-            Token::Number { bytes, .. } => Ok(WrittenOperand::Digits(bytes)),
+            Token::Number { bytes, .. } => Ok(Operand::Value(bytes)),
             Token::Word { bytes, .. } => {
                 let Some(register) = register_named(bytes) else {
                     return Err(Reason::NoForm.at(self.line));
                 };
-                Ok(WrittenOperand::Register(register))
+                Ok(Operand::Register(register))
             }
         }
     }
@@ -176,24 +155,24 @@ impl<'a> Words<'a> {
         ensures { Operands (mnemonic_word mnemonic) self.old self.new result }
     {
         match mnemonic {
-            Mnemonic::Store => Ok(WrittenInstruction::Store(self.variable()?, self.operand()?)),
-            Mnemonic::Load => Ok(WrittenInstruction::Load(self.register()?, self.variable()?)),
-            Mnemonic::Set => Ok(WrittenInstruction::Set(self.register()?, self.operand()?)),
-            Mnemonic::Add => Ok(WrittenInstruction::Add(self.register()?, self.operand()?)),
-            Mnemonic::Cas => Ok(WrittenInstruction::Cas(
+            Mnemonic::Store => Ok(Instruction::Store(self.variable()?, self.operand()?)),
+            Mnemonic::Load => Ok(Instruction::Load(self.register()?, self.variable()?)),
+            Mnemonic::Set => Ok(Instruction::Set(self.register()?, self.operand()?)),
+            Mnemonic::Add => Ok(Instruction::Add(self.register()?, self.operand()?)),
+            Mnemonic::Cas => Ok(Instruction::Cas(
                 self.register()?,
                 self.variable()?,
                 self.operand()?,
                 self.operand()?,
             )),
-            Mnemonic::Fence => Ok(WrittenInstruction::Fence),
-            Mnemonic::Jump => Ok(WrittenInstruction::Jump(self.digits()?)),
-            Mnemonic::JumpIfEqual => Ok(WrittenInstruction::JumpIfEqual(
+            Mnemonic::Fence => Ok(Instruction::Fence),
+            Mnemonic::Jump => Ok(Instruction::Jump(self.digits()?)),
+            Mnemonic::JumpIfEqual => Ok(Instruction::JumpIfEqual(
                 self.register()?,
                 self.operand()?,
                 self.digits()?,
             )),
-            Mnemonic::JumpUnlessEqual => Ok(WrittenInstruction::JumpUnlessEqual(
+            Mnemonic::JumpUnlessEqual => Ok(Instruction::JumpUnlessEqual(
                 self.register()?,
                 self.operand()?,
                 self.digits()?,
@@ -212,13 +191,9 @@ impl<'a> Words<'a> {
             return Err(Reason::NoForm.at(self.line));
         };
         match bytes {
-            b"at" => Ok(Some(WrittenCondition::At(self.digits()?, self.digits()?))),
-            b"reg" => Ok(Some(WrittenCondition::Holds(
-                self.digits()?,
-                self.register()?,
-                self.digits()?,
-            ))),
-            b"mem" => Ok(Some(WrittenCondition::Memory(self.variable()?, self.digits()?))),
+            b"at" => Ok(Some(Condition::At(self.digits()?, self.digits()?))),
+            b"reg" => Ok(Some(Condition::Holds(self.digits()?, self.register()?, self.digits()?))),
+            b"mem" => Ok(Some(Condition::Memory(self.variable()?, self.digits()?))),
             _ => Err(Reason::NoForm.at(self.line)),
         }
     }
@@ -303,13 +278,7 @@ fn in_range(low: u8, high: u8, digits: &[u8]) -> Option<u8>
     (low <= n && n <= high).then_some(n)
 }
 
-// The ranges by their names, so that each pair of numbers stands once.
-pub(crate) fn bound(digits: &[u8]) -> Option<u8>
-    ensures { result ≡ number_read 1 4 digits.entry }
-{
-    in_range(1, 4, digits)
-}
-
+// The ranges by their names, so that each pair of numbers stands once; the bound's is below.
 fn value(digits: &[u8]) -> Option<u8>
     ensures { result ≡ number_read 0 15 digits.entry }
 {
@@ -328,48 +297,47 @@ fn thread(digits: &[u8]) -> Option<u8>
     in_range(0, 3, digits)
 }
 
-fn operand(written: WrittenOperand<'_>) -> Option<Operand>
+fn operand(written: WrittenOperand<'_>) -> Option<Operand<u8>>
     ensures { result ≡ operand_read written.entry }
 {
     match written {
-        WrittenOperand::Digits(digits) => Some(Operand::Value(value(digits)?)),
-        WrittenOperand::Register(register) => Some(Operand::Register(register)),
+        Operand::Value(digits) => Some(Operand::Value(value(digits)?)),
+        Operand::Register(register) => Some(Operand::Register(register)),
     }
 }
 
 // What an instruction says, if its numbers lie in their ranges.
-fn instruction_in_range(written: WrittenInstruction<'_>) -> Option<Instruction>
+fn instruction_in_range(written: WrittenInstruction<'_>) -> Option<Instruction<u8>>
     ensures { result ≡ instruction_read written.entry }
 {
     Some(match written {
-        WrittenInstruction::Store(v, e) => Instruction::Store(v, operand(e)?),
-        WrittenInstruction::Load(r, v) => Instruction::Load(r, v),
-        WrittenInstruction::Set(r, e) => Instruction::Set(r, operand(e)?),
-        WrittenInstruction::Add(r, e) => Instruction::Add(r, operand(e)?),
-        WrittenInstruction::Cas(r, v, old, new) => {
-            Instruction::Cas(r, v, operand(old)?, operand(new)?)
-        }
-        WrittenInstruction::Fence => Instruction::Fence,
-        WrittenInstruction::Jump(n) => Instruction::Jump(target(n)?),
-        WrittenInstruction::JumpIfEqual(r, e, n) => {
+        Instruction::Store(v, e) => Instruction::Store(v, operand(e)?),
+        Instruction::Load(r, v) => Instruction::Load(r, v),
+        Instruction::Set(r, e) => Instruction::Set(r, operand(e)?),
+        Instruction::Add(r, e) => Instruction::Add(r, operand(e)?),
+        Instruction::Cas(r, v, old, new) => { Instruction::Cas(r, v, operand(old)?, operand(new)?) }
+        Instruction::Fence => Instruction::Fence,
+        Instruction::Jump(n) => Instruction::Jump(target(n)?),
+        Instruction::JumpIfEqual(r, e, n) => {
             Instruction::JumpIfEqual(r, operand(e)?, target(n)?)
         }
-        WrittenInstruction::JumpUnlessEqual(r, e, n) => {
+        Instruction::JumpUnlessEqual(r, e, n) => {
             Instruction::JumpUnlessEqual(r, operand(e)?, target(n)?)
         }
     })
 }
 
-fn condition_in_range(written: WrittenCondition<'_>) -> Option<Condition>
+fn condition_in_range(written: WrittenCondition<'_>) -> Option<Condition<u8>>
     ensures { result ≡ condition_read written.entry }
 {
     Some(match written {
-        WrittenCondition::At(t, n) => Condition::At(thread(t)?, target(n)?),
-        WrittenCondition::Holds(t, r, d) => Condition::Holds(thread(t)?, r, value(d)?),
-        WrittenCondition::Memory(v, d) => Condition::Memory(v, value(d)?),
+        Condition::At(t, n) => Condition::At(thread(t)?, target(n)?),
+        Condition::Holds(t, r, d) => Condition::Holds(thread(t)?, r, value(d)?),
+        Condition::Memory(v, d) => Condition::Memory(v, value(d)?),
     })
 }
 
+// A number from `low` to `high`, or the refusal of its line.
 pub fn number(low: u8, high: u8, digits: &[u8], line: u16) -> Result<u8, Refusal>
     ensures value { MatchResult result (λ n. (n ≡ decimal digits.now) × ((low ≤ n) × (n ≤ high))) (Refused NumberOutOfRange line) }
     ensures read { Valued (number_read low high digits.entry) line result }
@@ -377,7 +345,13 @@ pub fn number(low: u8, high: u8, digits: &[u8], line: u16) -> Result<u8, Refusal
     in_range(low, high, digits).ok_or(Reason::NumberOutOfRange.at(line))
 }
 
-pub fn instruction(written: WrittenInstruction<'_>, line: u16) -> Result<Instruction, Refusal>
+pub(crate) fn bound(digits: &[u8], line: u16) -> Result<u8, Refusal>
+    ensures { Valued (number_read 1 4 digits.entry) line result }
+{
+    number(1, 4, digits, line)
+}
+
+pub fn instruction(written: WrittenInstruction<'_>, line: u16) -> Result<Instruction<u8>, Refusal>
     ensures value { MatchResult result (λ i. (i ≡ instruction_of written.entry) × (instruction_fits i ≡ true)) (Refused NumberOutOfRange line) }
     ensures read { Valued (instruction_read written.entry) line result }
 {

@@ -2,7 +2,7 @@
 ghost use Rattle.std.specs.Prelude.{◌≡◌};
 ghost use Rattle.listing.specs.Reasons.{number_of};
 
-// The number of a refusal is `reason as u8`; no other number of it stands in the code.
+// The number of a refusal is `reason as u8`, that of its case; no other number of it stands in the code.
 #[derive(Clone, Copy, PartialEq, Eq)]
 pub enum Reason {
     TextTooLong = 1,
@@ -23,7 +23,7 @@ pub enum Reason {
     BufferTooShort = 16,
 }
 
-// Lines are counted from 1; a refusal that concerns no line has line 0.
+// Lines are counted from 1; a refusal that concerns no line has line 0, as it is printed.
 #[derive(Clone, Copy, PartialEq, Eq)]
 pub struct Refusal {
     pub reason: Reason,

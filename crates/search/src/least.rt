@@ -20,7 +20,8 @@ struct Search<'q, 't, M: Machine> {
 }
 
 impl<M: Machine + Copy> Search<'_, '_, M> {
-    // Whether no fault run keeps to the set; where one does, the places that it crosses are noted.
+    // Whether no fault run keeps to the set; where one does, the places that it crosses are noted. A yes or no: that the rows
+    // suffice is known by then.
     fn is_enough(&mut self, places: Placement) -> bool {
         let machine = Fenced {
             machine: *self.unfenced.machine,

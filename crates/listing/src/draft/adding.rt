@@ -47,7 +47,7 @@ impl Draft {
     }
 
     // Adds an instruction to the last thread.
-    fn push_instruction(&mut self, instruction: Instruction, line: u16) -> Result<(), Refusal>
+    fn push_instruction(&mut self, instruction: Instruction<u8>, line: u16) -> Result<(), Refusal>
         requires some { 0 < length self.old.threads }
         requires value { instruction_fits instruction ≡ true }
         ensures declined { IfErr result (Declined line) }
@@ -86,7 +86,7 @@ impl Draft {
         if self.bound.is_some() {
             return Err(Reason::NoForm.at(line));
         }
-        self.bound = Some(bound(digits).ok_or(Reason::NumberOutOfRange.at(line))?);
+        self.bound = Some(bound(digits, line)?);
         Ok(())
     }
 

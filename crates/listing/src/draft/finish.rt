@@ -31,7 +31,7 @@ fn check<T, F: Fn(&T) -> bool>(
     Ok(())
 }
 
-fn jump_fits(instruction: Instruction, length: usize) -> bool
+fn jump_fits(instruction: Instruction<u8>, length: usize) -> bool
     ensures { result ≡ jump_within length instruction }
 {
     match instruction {
@@ -69,7 +69,7 @@ impl Draft {
         Ok(())
     }
 
-    fn condition_fits(&self, condition: Condition) -> bool
+    fn condition_fits(&self, condition: Condition<u8>) -> bool
         ensures { result ≡ condition_there self.now.threads condition }
     {
         match condition {

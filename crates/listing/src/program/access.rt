@@ -25,7 +25,7 @@ impl Program {
     }
 
     // The instructions of a thread, none where there is no such thread.
-    fn code(&self, thread: u8) -> &[Instruction]
+    fn code(&self, thread: u8) -> &[Instruction<u8>]
         ensures value { result.now ≡ slice_index_or self.now.threads thread [] }
         ensures limit { length result.now ≤ 16 }
     {
@@ -44,7 +44,7 @@ impl Program {
     }
 
     // The instruction at which a thread stands, if it has not ended.
-    pub fn instruction(&self, thread: u8, at: u8) -> Option<Instruction>
+    pub fn instruction(&self, thread: u8, at: u8) -> Option<Instruction<u8>>
         ensures value { result ≡ fetched self.now thread at }
         ensures limit { OnSome result ((at < length_of self.now thread) × (at < 16)) }
     {
