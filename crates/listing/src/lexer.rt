@@ -44,8 +44,8 @@ fn kind_of(byte: u8) -> Kind
     }
 }
 
-// Tests of a byte, and searches each of one line: the library's `position` and `all` are the generic search, and such a call
-// is proved where it is the whole of a function.
+// Tests of a byte, and searches, each a call of the library's generic `position` or `all`, which is proved where it is the
+// whole of a function.
 fn is_comment(byte: u8) -> bool
     ensures { result ≡ comments byte }
 {

@@ -358,7 +358,7 @@ pub fn instruction(written: WrittenInstruction<'_>, line: u16) -> Result<Instruc
     instruction_in_range(written).ok_or(Reason::NumberOutOfRange.at(line))
 }
 
-// The conditions of a fault line. All its words are taken before a number or the count is judged.
+// The conditions of a fault line. All its words are taken before a number or the count is refused.
 pub fn fault_line(mut words: Words<'_>) -> Result<FaultLine, Refusal>
     ensures fits { MatchResult result (λ l. fault_fits l ≡ true) (Declined words.entry.line) }
     ensures value { result ≡ fitted words.entry.line (fault (left words.entry)) }

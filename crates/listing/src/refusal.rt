@@ -2,7 +2,8 @@
 ghost use Rattle.std.specs.Prelude.{◌≡◌};
 ghost use Rattle.listing.specs.Reasons.{number_of};
 
-// The number of a refusal is `reason as u8`, that of its case; no other number of it stands in the code.
+// The number of a refusal is `reason as u8`, that of its case, which a `From` would spell out; no other number of it stands
+// in the code.
 #[derive(Clone, Copy, PartialEq, Eq)]
 pub enum Reason {
     TextTooLong = 1,

@@ -30,7 +30,7 @@ impl Crossings {
         self.sets.push(crossed);
     }
 
-    // Whether some set noted has no place in `chosen` and none in `later`.
+    // Whether some set kept has no place in `chosen` and none in `later`.
     pub fn missed(&self, chosen: Placement, later: Placement) -> bool
         ensures { result ≡ list_any (misses chosen later) self.now.sets }
     {

@@ -35,7 +35,8 @@ impl Program {
             .map_or(&[], |code| code.as_slice())
     }
 
-    // The number of instructions of a thread, 0 where there is no such thread.
+    // The number of instructions of a thread, 0 where there is no such thread: it promised so, and a call that could not fail
+    // still cannot.
     pub fn length(&self, thread: u8) -> u8
         ensures value { result ≡ length_of self.now thread }
         ensures limit { result ≤ 16 }
