@@ -1,5 +1,6 @@
 // The least set of open places that keeps every fault out.
-ghost use Rattle.std.specs.Prelude.{◌≤◌};
+ghost use Rattle.std.specs.Prelude.{◌≡◌, ◌≤◌, IfErr, ◌⊎◌};
+ghost use Rattle.listing.specs.declared.refusal.Reason.TheVariants.{TooFewRows, NoneEnough};
 
 use crate::crossings::Crossings;
 use crate::explore::{Extent, Judged};
@@ -67,7 +68,9 @@ impl<M: Machine + Copy> Search<'_, '_, M> {
     }
 
     // Explores with no fence first: that alone decides whether the rows suffice.
-    fn least(&mut self) -> Result<Placement, Reason> {
+    fn least(&mut self) -> Result<Placement, Reason>
+        ensures { IfErr result (λ e. (e ≡ TooFewRows) ⊎ (e ≡ NoneEnough)) }
+    {
         let Some(row) = self.unfenced.explore(&mut self.table, Extent::Whole)? else {
             return Ok(Placement::empty());
         };
@@ -92,7 +95,9 @@ pub fn least<M: Machine + Copy>(
     open: Placement,
     rows: &mut [M::Standing],
     notes: &mut [u32],
-) -> Result<Placement, Reason> {
+) -> Result<Placement, Reason>
+    ensures { IfErr result (λ e. (e ≡ TooFewRows) ⊎ (e ≡ NoneEnough)) }
+{
     let mut search = Search {
         unfenced: Judged { machine, program },
         open,
