@@ -62,9 +62,7 @@ line_none_left bs none =
     ap (λ r. drop 1 r) (sym (drop_all (length bs) bs (omega arith)) ∙ left)
 
 -- the first word of some bytes, and what follows it
-pub cut_word : (bs cs : List ℕ) (o q : Option ℕ) (n m : ℕ) (w r : List ℕ) → o ≡ position (λ b. not (parts b)) bs → n ≡ unwrap_or o (length bs) → cs ≡ take (length bs - n) (drop n bs)
-    → q ≡ position parts cs → m ≡ unwrap_or q (length cs) → w ≡ take m cs → r ≡ drop m cs → (w ≡ next_word bs) × (r ≡ after_word bs)
-cut_word bs cs o q n m w r at start sliced to end front back =
-    let past : cs ≡ past_spaces bs = sliced ∙ (take_rest bs n ∙ cut_after (λ b. not (parts b)) bs n (start ∙ ap (λ p. unwrap_or p (length bs)) at)) in
+pub cut_word : (bs cs : List ℕ) (q : Option ℕ) (m : ℕ) (w r : List ℕ) → cs ≡ past_spaces bs → q ≡ position parts cs → m ≡ unwrap_or q (length cs) → w ≡ take m cs → r ≡ drop m cs → (w ≡ next_word bs) × (r ≡ after_word bs)
+cut_word bs cs q m w r past to end front back =
     let found : m ≡ unwrap_or (position parts cs) (length cs) = end ∙ ap (λ p. unwrap_or p (length cs)) to in
     (front ∙ (cut_before parts cs m found ∙ ap (upto parts) past), back ∙ (cut_after parts cs m found ∙ ap (onward parts) past))

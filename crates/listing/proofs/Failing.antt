@@ -2,11 +2,14 @@
 use Rattle.std.proofs.Common.{◌≡◌, ℕ, ◌≤◌, Bool, true, false, cond, List, [], ◌∷◌, length, Some, None, Option, refl, arith}
 use Rattle.std.proofs.lemmas.Bool.{and_parts, and_from}
 use Rattle.listing.specs.declared.code.Instruction.{Instruction}
-use Rattle.listing.specs.Laws.{jumps_there}
 use Rattle.listing.specs.Limits.{all, jump_within}
 use Rattle.listing.specs.Reading.{first_failing, or_else, jump_failing}
 use Rattle.listing.specs.Spelling.{Pairwise}
 use Rattle.listing.proofs.Pairs.{AsLong}
+
+-- each jump of a thread goes to a place of it, or to its end
+abbrev pub jumps_there : List (Instruction ℕ) → Bool
+jumps_there is = all (jump_within (length is)) is
 
 pub or_else_none : (o u : Option ℕ) → or_else o u ≡ None → (o ≡ None) × (u ≡ None)
 or_else_none None u h = (refl, h)

@@ -18,6 +18,7 @@ pub mod Grown
 pub mod Kept
 pub mod Laid
 pub mod LineSteps
+pub mod LinesHeld
 pub mod NextLine
 pub mod NextWord
 pub mod Pairs
@@ -28,7 +29,9 @@ pub mod Promised
 pub mod ReadFits
 pub mod Recursive
 pub mod Results
+pub mod Rising
 pub mod SaidTogether
+pub mod Somewhere
 pub mod Sound
 pub mod Spelled
 pub mod SpelledWords

@@ -4,6 +4,7 @@ use Rattle.std.proofs.lemmas.List.{append-nil, append_assoc}
 use Rattle.listing.specs.declared.code.Instruction.{Instruction}
 use Rattle.listing.specs.declared.code.Instruction.TheVariants as instruction
 use Rattle.listing.specs.Forms.{Says, no_form, out_of_range, means, Line, bound_line, thread_line, instruction_line, fault_line, form}
+use Rattle.listing.specs.Laws.{words_say}
 use Rattle.listing.specs.Reading.{Progress, bound_stands, thread_stands, instruction_stands, fault_stands, may_stand, room, with_line, held, worded}
 use Rattle.listing.specs.Spelling.{Spelled, Pairwise}
 use Rattle.listing.proofs.FormSpells.{line_items, line_ranges, form_spelled, spelled_form}
@@ -39,6 +40,7 @@ may_stand_is p (fault_line cs) w ws s = ap (may_stand p) s.0
 -- a line that has been taken
 pub record Taken (p : Progress) (n : ℕ) (ws : List (List ℕ)) (q : Progress) : Type 0 where
   pub said : Line
+  pub says : words_say ws ≡ means said
   pub stood : stands p said ≡ true
   pub ranged : line_ranges said ≡ true
   pub fitted : room p said ≡ true
@@ -60,6 +62,7 @@ taken p q n w ws h =
     let c = form_spelled w ws b.0 b.1 in
     record {
       said = b.0;
+      says = b.1;
       stood = sym (may_stand_is p b.0 w ws c.0) ∙ a.0;
       ranged = c.1;
       fitted = b.2;

@@ -1,5 +1,5 @@
 -- Lists whose elements stand in pairs. Assumes nothing.
-use Rattle.std.proofs.Common.{◌≡◌, List, [], ◌∷◌, ◌++◌, map, length}
+use Rattle.std.proofs.Common.{◌≡◌, suc, List, [], ◌∷◌, ◌++◌, map, length, refl, ap}
 use Rattle.std.specs.List.{AllByRecursion as All}
 use Rattle.listing.specs.Spelling.{Pairwise}
 
@@ -12,6 +12,12 @@ module _ {X Y : Type 0} (R : X → Y → Type 0) where
   pairwise_append [] us (y ∷ ys) vs h k = absurd h
   pairwise_append (x ∷ xs) us [] vs h k = absurd h
   pairwise_append (x ∷ xs) us (y ∷ ys) vs h k = (h.0, pairwise_append xs us ys vs h.1 k)
+
+  pub pairwise_as_long : (xs : List X) (ys : List Y) → Pairwise R xs ys → AsLong xs ys
+  pairwise_as_long [] [] h = refl
+  pairwise_as_long [] (y ∷ ys) h = absurd h
+  pairwise_as_long (x ∷ xs) [] h = absurd h
+  pairwise_as_long (x ∷ xs) (y ∷ ys) h = ap suc (pairwise_as_long xs ys h.1)
 
   pub pairwise_map : (f : X → Y) (xs : List X) → All (λ x. R x (f x)) xs → Pairwise R xs (map f xs)
   pairwise_map f [] h = tt

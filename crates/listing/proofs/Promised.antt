@@ -7,7 +7,7 @@ use Rattle.listing.specs.declared.refusal.Reason.TheVariants.{TextTooLong, ByteN
 use Rattle.listing.specs.declared.refusal.Refusal.{Refusal}
 use Rattle.listing.specs.Code.{code_of}
 use Rattle.listing.specs.Laws.{Exactly, FirstWrong, FirstBroken, Wrong}
-use Rattle.listing.specs.Laws.Wrong.{too_long, broken_line, empty_thread, lacking, jump_astray, fault_astray}
+use Rattle.listing.specs.Laws.Wrong.{too_long, broken_line, empty_thread, lacking, astray}
 use Rattle.listing.specs.Lines.{Refused, of_reading}
 use Rattle.listing.specs.Reading.{Progress, told}
 
@@ -34,16 +34,14 @@ wrong_reason t e (too_long far) = refl
 wrong_reason t e (broken_line short before after bs p why is fine first) = broken why p bs first
 wrong_reason t e (empty_thread short p n fine first) = refl
 wrong_reason t e (lacking short p fine used none) = refl
-wrong_reason t e (jump_astray short p n fine used some astray) = refl
-wrong_reason t e (fault_astray short p n fine used some there astray) = refl
+wrong_reason t e (astray short p n fine used both first) = refl
 
 wrong_length : (t : List ℕ) (e : Refusal) → Wrong t e → 4096 < length t → Refused TextTooLong 0 e
 wrong_length t e (too_long far) h = (refl, refl)
 wrong_length t e (broken_line short before after bs p why is fine first) h = absurd (omega arith)
 wrong_length t e (empty_thread short p n fine first) h = absurd (omega arith)
 wrong_length t e (lacking short p fine used none) h = absurd (omega arith)
-wrong_length t e (jump_astray short p n fine used some astray) h = absurd (omega arith)
-wrong_length t e (fault_astray short p n fine used some there astray) h = absurd (omega arith)
+wrong_length t e (astray short p n fine used both first) h = absurd (omega arith)
 
 pub length_promised : (t : List ℕ) (r : Result Program Refusal) → Exactly t (told code_of r) → FirstWrong t (told code_of r)
     → MatchResult r (λ _. length t ≤ 4096) (λ e. 4096 < length t → Refused TextTooLong 0 e)

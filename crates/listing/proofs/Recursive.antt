@@ -10,6 +10,15 @@ module _ {X : Type 0} (P : X → Type 0) where
   pub all_push : (xs : List X) (x : X) → All P xs → P x → All P (xs ++ x ∷ [])
   all_push xs x h k = all_append xs (x ∷ []) h (k, tt)
 
+  -- the two parts of a list that is put together
+  pub all_front : (xs ys : List X) → All P (xs ++ ys) → All P xs
+  all_front [] ys h = tt
+  all_front (x ∷ xs) ys h = (h.0, all_front xs ys h.1)
+
+  pub all_back : (xs ys : List X) → All P (xs ++ ys) → All P ys
+  all_back [] ys h = h
+  all_back (x ∷ xs) ys h = all_back xs ys h.1
+
 pub all_weaker : {X : Type 0} (P Q : X → Type 0) → ((x : X) → P x → Q x) → (xs : List X) → All P xs → All Q xs
 all_weaker P Q weaker [] h = tt
 all_weaker P Q weaker (x ∷ xs) h = (weaker x h.0, all_weaker P Q weaker xs h.1)

@@ -4,7 +4,7 @@ use Rattle.std.proofs.lemmas.Bool.{and_parts, leb-true}
 use Rattle.listing.specs.declared.code.Condition.{Condition}
 use Rattle.listing.specs.declared.code.Instruction.{Instruction}
 use Rattle.listing.specs.Code.{Code}
-use Rattle.listing.specs.Laws.{jumps_there}
+use Rattle.listing.proofs.Failing.{jumps_there}
 use Rattle.listing.specs.Limits.{all, between, together, condition_there, thread_keeps, fault_keeps, within_limits}
 use Rattle.listing.specs.Spelling.{keeps_limits}
 use Rattle.listing.specs.Values.{instruction_fits, condition_fits}

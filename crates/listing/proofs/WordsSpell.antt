@@ -7,7 +7,7 @@ use Rattle.listing.specs.declared.code.Condition.{Condition}
 use Rattle.listing.specs.declared.code.Instruction.{Instruction}
 use Rattle.listing.specs.Code.{Code}
 use Rattle.listing.specs.Forms.{Line, bound_line, thread_line, instruction_line, fault_line}
-use Rattle.listing.specs.Laws.{jumps_there}
+use Rattle.listing.proofs.Failing.{jumps_there}
 use Rattle.listing.specs.Limits.{all, between, bound_fits, together, condition_there, thread_keeps, fault_keeps, fault_fits, within_limits, thread_fits}
 use Rattle.listing.specs.Reading.{Progress, nothing, some, grown, with_line, first_failing, jump_failing, target_failing, targeted, complete, filled, finished}
 use Rattle.listing.specs.Spelling.{Item, Spelled, Pairwise, instruction_items, thread_rows, fault_row, rows, keeps_limits}

@@ -1,20 +1,28 @@
 -- What reading a text means.
 --   Exactly t r        the reading r of t is a program exactly when t has at most 4,096 bytes and spells it
---   InReach           each program within the limits is what some text reads as; and ProgramsInReach, of programs that exist
---   KnownByLists     programs with the same lists are the same
---   Wrong t e          what the refusal e of t says: the first thing wrong with it
---   OneOrOther r     a reading is a program or a refusal, and never both
-use Rattle.std.specs.Prelude.{◌≡◌, ℕ, ◌+◌, ◌<◌, ◌≤◌, Bool, true, false, not, ◌&&◌, ◌||◌, ◌⊎◌, List, [], ◌∷◌, ◌++◌, length, Ok, Err, Result, ◌≢◌, slice_index_or}
+--   InReach            each program within the limits is what some text reads as; and ProgramsInReach, of programs that exist
+--   KnownByLists       programs with the same lists are the same
+--   foreign, formless, unranged, crowded    a line breaks the rule on bytes, on forms, on ranges, on counts
+--   FirstBroken why p bs   the line bs, after what p holds, breaks that rule and none that comes earlier in the order
+--   SaysOn ls n l      line n of ls says l
+--   Held p n l         p holds what line n says, beside that line
+--   Lined ls p         p holds what the lines ls say, in their order
+--   Fine ls p          every line of ls is fine by the rules of a line, and p is what they hold
+--   EmptyOn p n        a thread without instructions begins on line n
+--   AstrayOn p n       line n names a place or a thread that is not there
+--   First P n          n is the first line at which P holds
+--   Wrong t e          what the refusal e of t says: the first thing wrong with it; FirstWrong t r: so of a reading that is refused
+--   OneOrOther r       a reading is a program or a refusal, and never both
+use Rattle.std.specs.Prelude.{◌≡◌, ℕ, ◌+◌, ◌<◌, ◌≤◌, Bool, true, false, not, ◌&&◌, ◌||◌, ◌⊎◌, List, [], ◌∷◌, ◌++◌, length, AllPairs, Contains, Some, Ok, Err, Result, ◌≢◌}
 use Rattle.listing.specs.declared.refusal.Reason.{Reason}
 use Rattle.listing.specs.declared.refusal.Reason.TheVariants.{TextTooLong, ByteNotPermitted, NoForm, NumberOutOfRange, TooMany, Missing, TargetMissing, NoProgram, PlaceMissing, AlreadySo, RunListTooShort, NoPlacement, PlaceNotKept, TooFewRows, NoneEnough, BufferTooShort}
 use Rattle.listing.specs.declared.refusal.Refusal.{Refusal}
-use Rattle.listing.specs.declared.code.Instruction.{Instruction}
 use Rattle.listing.specs.declared.program.Program.{Program}
 use Rattle.listing.specs.Code.{Code, code_of}
-use Rattle.listing.specs.Forms.{Says, no_form, out_of_range, means, Line, form}
+use Rattle.listing.specs.Forms.{Says, no_form, out_of_range, means, Line, bound_line, thread_line, instruction_line, fault_line, form}
 use Rattle.listing.specs.Limits.{all, jump_within, condition_there}
 use Rattle.listing.specs.Reading.{reading, refusal, Progress, nothing, some, may_stand, room, read_lines}
-use Rattle.listing.specs.Spelling.{Spells, keeps_limits}
+use Rattle.listing.specs.Spelling.{Pairwise, Spells, keeps_limits}
 use Rattle.listing.specs.Words.{permitted, content_of, words, lines}
 
 pub record Exactly (t : List ℕ) (r : Result Code Refusal) : Type 0 where
@@ -75,43 +83,81 @@ FirstBroken TooFewRows p bs = ⊥
 FirstBroken NoneEnough p bs = ⊥
 FirstBroken BufferTooShort p bs = ⊥
 
+-- what the words of a line say
+abbrev pub words_say : List (List ℕ) → Says Line
+words_say [] = no_form
+words_say (w ∷ ws) = form w ws
+
+-- line n says l
+pub record SaysOn (ls : List (List ℕ)) (n : ℕ) (l : Line) : Type 0 where
+  pub before : List (List ℕ)
+  pub here : List ℕ
+  pub after : List (List ℕ)
+  pub are : ls ≡ before ++ here ∷ after
+  pub counted : n ≡ length before + 1
+  pub says : words_say (words (content_of here)) ≡ means l
+
+-- R holds of some two that stand at one place
+abbrev pub Somewhere : {X Y : Type 0} → (X → Y → Type 0) → List X → List Y → Type 0
+Somewhere R [] ys = ⊥
+Somewhere R (x ∷ xs) [] = ⊥
+Somewhere R (x ∷ xs) (y ∷ ys) = R x y ⊎ Somewhere R xs ys
+
+-- what line n says is held, and held beside that line
+abbrev pub Held : Progress → ℕ → Line → Type 0
+Held p n (bound_line k) = p.bound ≡ Some k
+Held p n thread_line = Contains p.thread_lines n
+Held p n (instruction_line i) = Somewhere (Somewhere (λ m j. (m ≡ n) × (j ≡ i))) p.instruction_lines p.threads
+Held p n (fault_line cs) = Somewhere (λ m ds. (m ≡ n) × (ds ≡ cs)) p.fault_lines p.faults
+
+-- the lines of threads, each with those of its instructions after it
+abbrev pub thread_by_thread : List ℕ → List (List ℕ) → List ℕ
+thread_by_thread [] nss = []
+thread_by_thread (n ∷ ns) [] = []
+thread_by_thread (n ∷ ns) (is ∷ nss) = n ∷ (is ++ thread_by_thread ns nss)
+
+abbrev pub part_lines : Progress → List ℕ
+part_lines p = thread_by_thread p.thread_lines p.instruction_lines ++ p.fault_lines
+
+-- p holds what the lines say, each part beside the line that says it, in the order of the lines
+pub record Lined (ls : List (List ℕ)) (p : Progress) : Type 0 where
+  pub all_held : (n : ℕ) (l : Line) → SaysOn ls n l → Held p n l
+  pub threads : Pairwise (λ n t. SaysOn ls n thread_line) p.thread_lines p.threads
+  pub instructions : Pairwise (Pairwise (λ n i. SaysOn ls n (instruction_line i))) p.instruction_lines p.threads
+  pub faults : Pairwise (λ n cs. SaysOn ls n (fault_line cs)) p.fault_lines p.faults
+  pub in_order : AllPairs (λ m n. m < n) (part_lines p)
+
 -- every line is fine by the rules of a line, and p is what they hold
-abbrev pub Fine : List (List ℕ) → Progress → Type 0
-Fine ls p = read_lines nothing 1 ls ≡ Ok p
+pub record Fine (ls : List (List ℕ)) (p : Progress) : Type 0 where
+  pub are : read_lines nothing 1 ls ≡ Ok p
+  pub lined : Lined ls p
 
--- n stands on the line of the first of xs that fails a test
-pub record FirstFailing {X : Type 0} (test : X → Bool) (ns : List ℕ) (xs : List X) (n : ℕ) : Type 0 where
-  pub before : List X
-  pub failing : X
-  pub after : List X
-  pub are : xs ≡ before ++ failing ∷ after
-  pub pass : all test before ≡ true
-  pub fails : test failing ≡ false
-  pub stands : (d : ℕ) → slice_index_or ns (length before) d ≡ n
+-- a thread without instructions begins on line n
+abbrev pub EmptyOn : Progress → ℕ → Type 0
+EmptyOn p n = Somewhere (λ m is. (m ≡ n) × (is ≡ [])) p.thread_lines p.threads
 
--- each jump of a thread goes to a place of it, or to its end
-abbrev pub jumps_there : List (Instruction ℕ) → Bool
-jumps_there is = all (jump_within (length is)) is
+-- line n has a jump past its thread's length
+abbrev pub JumpAstrayOn : Progress → ℕ → Type 0
+JumpAstrayOn p n = Somewhere (λ ms is. Somewhere (λ m i. (m ≡ n) × (jump_within (length is) i ≡ false)) ms is) p.instruction_lines p.threads
 
--- n is the first line with a jump past its thread's length
-pub record FirstJumpAstray (p : Progress) (n : ℕ) : Type 0 where
-  pub before : List (List (Instruction ℕ))
-  pub astray : List (Instruction ℕ)
-  pub after : List (List (Instruction ℕ))
-  pub are : p.threads ≡ before ++ astray ∷ after
-  pub pass : all jumps_there before ≡ true
-  pub fails : FirstFailing (jump_within (length astray)) (slice_index_or p.instruction_lines (length before) []) astray n
+-- line n has a condition on a thread that is not there, or on a place past its length
+abbrev pub FaultAstrayOn : Progress → ℕ → Type 0
+FaultAstrayOn p n = Somewhere (λ m cs. (m ≡ n) × (all (condition_there p.threads) cs ≡ false)) p.fault_lines p.faults
 
-abbrev pub FirstFaultAstray : Progress → ℕ → Type 0
-FirstFaultAstray p n = FirstFailing (all (condition_there p.threads)) p.fault_lines p.faults n
+abbrev pub AstrayOn : Progress → ℕ → Type 0
+AstrayOn p n = JumpAstrayOn p n ⊎ FaultAstrayOn p n
+
+-- n is the first line at which P holds
+pub record First (P : ℕ → Type 0) (n : ℕ) : Type 0 where
+  pub there : P n
+  pub earliest : (m : ℕ) → P m → n ≤ m
 
 pub data Wrong (t : List ℕ) : Refusal → Type 0 where
   too_long : 4096 < length t → Wrong t (refusal TextTooLong 0)
   broken_line : length t ≤ 4096 → (before after : List (List ℕ)) (bs : List ℕ) (p : Progress) (why : Reason) → lines t ≡ before ++ bs ∷ after → Fine before p → FirstBroken why p bs → Wrong t (refusal why (length before + 1))
-  empty_thread : length t ≤ 4096 → (p : Progress) (n : ℕ) → Fine (lines t) p → FirstFailing some p.thread_lines p.threads n → Wrong t (refusal Missing n)
+  empty_thread : length t ≤ 4096 → (p : Progress) (n : ℕ) → Fine (lines t) p → First (EmptyOn p) n → Wrong t (refusal Missing n)
   lacking : length t ≤ 4096 → (p : Progress) → Fine (lines t) p → all some p.threads ≡ true → (some p.threads && some p.faults) ≡ false → Wrong t (refusal Missing 0)
-  jump_astray : length t ≤ 4096 → (p : Progress) (n : ℕ) → Fine (lines t) p → all some p.threads ≡ true → (some p.threads && some p.faults) ≡ true → FirstJumpAstray p n → Wrong t (refusal TargetMissing n)
-  fault_astray : length t ≤ 4096 → (p : Progress) (n : ℕ) → Fine (lines t) p → all some p.threads ≡ true → (some p.threads && some p.faults) ≡ true → all jumps_there p.threads ≡ true → FirstFaultAstray p n → Wrong t (refusal TargetMissing n)
+  astray : length t ≤ 4096 → (p : Progress) (n : ℕ) → Fine (lines t) p → all some p.threads ≡ true → (some p.threads && some p.faults) ≡ true → First (AstrayOn p) n → Wrong t (refusal TargetMissing n)
 
 abbrev pub FirstWrong : List ℕ → Result Code Refusal → Type 0
 FirstWrong t (Ok c) = Unit {0}

@@ -10,6 +10,7 @@
 --   used ps            the pieces that have a byte
 --   lines text         the lines of a text: each ends with byte 10, which the last may lack
 --   words bs           the words of bs, which spaces part
+--   past_spaces bs     bs from its first byte that is no space on
 --   next_word bs       the first word of bs, which is empty if there is none
 --   after_word bs      what follows it
 --   Tells t word line  the token t is that word or number on that line

@@ -1,11 +1,11 @@
 // From the bytes of a text to its lines, and from a line to its words and numbers.
-ghost use Rattle.std.specs.Prelude.{◌≡◌, ◌<◌, ◌≤◌, true, false, [], length, not, position, IfErr, MatchOption, MatchResult, OnSome};
+ghost use Rattle.std.specs.Prelude.{◌≡◌, ◌<◌, ◌≤◌, true, false, [], length, position, IfErr, MatchOption, MatchResult, OnSome};
 ghost use Rattle.listing.specs.declared.refusal.Reason.TheVariants.{ByteNotPermitted};
 ghost use Rattle.listing.specs.Lines.{Refused};
 ghost use Rattle.listing.specs.Reading.{refusal};
 ghost use Rattle.listing.specs.Taking.{Comes, left, size};
 ghost use Rattle.listing.specs.Limits.{all};
-ghost use Rattle.listing.specs.Words.{Tells, after_word, comments, content_of, ends, is_digit, kind, line_of, next_word, parts, permitted, rest_of};
+ghost use Rattle.listing.specs.Words.{Tells, after_word, comments, content_of, ends, is_digit, kind, line_of, next_word, parts, past_spaces, permitted, rest_of};
 
 use crate::refusal::{Reason, Refusal};
 
@@ -82,12 +82,6 @@ fn all_permitted(bytes: &[u8]) -> bool
     bytes.iter().all(|byte| is_permitted(*byte))
 }
 
-fn word_start(bytes: &[u8]) -> Option<usize>
-    ensures { result ≡ position (λ b. not (parts b)) bytes.now }
-{
-    bytes.iter().position(|byte| *byte != b' ')
-}
-
 fn word_end(bytes: &[u8]) -> Option<usize>
     ensures { result ≡ position parts bytes.now }
 {
@@ -98,6 +92,19 @@ fn all_digits(bytes: &[u8]) -> bool
     ensures { result ≡ all is_digit bytes.now }
 {
     bytes.iter().all(|byte| is_digit(*byte))
+}
+
+// What is left of a line after the spaces at its front. A rule of the project: slice patterns take the bytes of a line apart.
+// The first space after a word is found by `position`, since no slice pattern has a part of unknown length before a byte.
+fn past_spaces(bytes: &[u8]) -> &[u8]
+    ensures left { result.now ≡ past_spaces bytes.now }
+    ensures shorter { length result.now ≤ length bytes.now }
+{
+    let mut left = bytes;
+    while let [b' ', rest @ ..] = left {
+        left = rest;
+    }
+    left
 }
 
 // The first line of a text without its line end, and what follows that.
@@ -145,7 +152,7 @@ impl<'a> Words<'a> {
         ensures comes { MatchOption result (left self.old ≡ []) (λ t. Comes t (left self.old) (left self.new) self.old.line) }
         ensures smaller { OnSome result (size self.new < size self.old) }
     {
-        let bytes = &self.rest[word_start(self.rest).unwrap_or(self.rest.len())..];
+        let bytes = past_spaces(self.rest);
         let (word, rest) = bytes.split_at(word_end(bytes).unwrap_or(bytes.len()));
         self.rest = rest;
         // By `then`, three clauses would each have to open the closure's contract.
