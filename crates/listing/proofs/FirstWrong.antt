@@ -19,6 +19,7 @@ use Rattle.listing.proofs.Results.{refused, onto}
 use Rattle.listing.proofs.Rising.{Rising, rising_front, rising_back, rising_across, thread_meets, threads_rise}
 use Rattle.listing.proofs.Somewhere.{meets, somewhere_weaker}
 use Rattle.listing.proofs.Sound.{Sound, nothing_sound, no_thread, read_lines_sound}
+use Rattle.listing.proofs.Unbroken.{unbroken}
 
 pub one_or_other : (r : Result Code Refusal) → OneOrOther r
 one_or_other (Ok c) = (inl (c, refl), λ d e h k. cc)
@@ -182,13 +183,16 @@ jump_first (m ∷ ns) (is ∷ nss) (t ∷ ts) n k l r h s =
           ]
     ] refl h
 
+fine_lines : (ls : List (List ℕ)) (p : Progress) → read_lines nothing 1 ls ≡ Ok p → Fine ls p
+fine_lines ls p h = record { are = h; unbroken = unbroken ls p h; lined = lined ls p h }
+
 -- what is wrong after the last line, of a text whose lines are all fine
 module _ (t : List ℕ) (p : Progress) (short : length t ≤ 4096) (read : read_lines nothing 1 (lines t) ≡ Ok p) where
   s : Sound p
   s = read_lines_sound (lines t) nothing p 1 nothing_sound read
 
   fine : Fine (lines t) p
-  fine = record { are = read; lined = lined (lines t) p read }
+  fine = fine_lines (lines t) p read
 
   rising : Rising (part_lines p)
   rising = rising_lines (lines t) p read
@@ -262,7 +266,7 @@ after_lines_wrong t (Ok p) short fine = finished_wrong t p short fine
 after_lines_wrong t (Err e) short bad =
     let b = read_broken nothing 1 (lines t) e bad in
     let at : 1 + length b.before ≡ length b.before + 1 = omega arith in
-    subst (Wrong t) (sym (b.says ∙ ap (refusal b.why) at)) (broken_line short b.before b.after b.here b.left b.why b.are (record { are = b.fine; lined = lined b.before b.left b.fine }) b.breaks)
+    subst (Wrong t) (sym (b.says ∙ ap (refusal b.why) at)) (broken_line short b.before b.after b.here b.left b.why b.are (fine_lines b.before b.left b.fine) b.breaks)
 
 pub first_wrong : (t : List ℕ) → FirstWrong t (reading t)
 unfolding reading

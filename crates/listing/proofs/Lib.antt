@@ -36,6 +36,7 @@ pub mod Sound
 pub mod Spelled
 pub mod SpelledWords
 pub mod Stands
+pub mod Unbroken
 pub mod Within
 pub mod WordLines
 pub mod WordSpells

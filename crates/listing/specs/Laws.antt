@@ -4,12 +4,15 @@
 --   KnownByLists       programs with the same lists are the same
 --   foreign, formless, unranged, crowded    a line breaks the rule on bytes, on forms, on ranges, on counts
 --   FirstBroken why p bs   the line bs, after what p holds, breaks that rule and none that comes earlier in the order
+--   words_say ws       what the words of a line say
 --   SaysOn ls n l      line n of ls says l
+--   Somewhere R xs ys  R holds of some two that stand at one place in the two lists
 --   Held p n l         p holds what line n says, beside that line
+--   part_lines p       the lines of what p holds: thread by thread (thread_by_thread), then the fault lines
 --   Lined ls p         p holds what the lines ls say, in their order
 --   Fine ls p          every line of ls is fine by the rules of a line, and p is what they hold
 --   EmptyOn p n        a thread without instructions begins on line n
---   AstrayOn p n       line n names a place or a thread that is not there
+--   AstrayOn p n       line n names a place or a thread that is not there, in a jump (JumpAstrayOn) or in a condition (FaultAstrayOn)
 --   First P n          n is the first line at which P holds
 --   Wrong t e          what the refusal e of t says: the first thing wrong with it; FirstWrong t r: so of a reading that is refused
 --   OneOrOther r       a reading is a program or a refusal, and never both
@@ -127,9 +130,10 @@ pub record Lined (ls : List (List ℕ)) (p : Progress) : Type 0 where
   pub faults : Pairwise (λ n cs. SaysOn ls n (fault_line cs)) p.fault_lines p.faults
   pub in_order : AllPairs (λ m n. m < n) (part_lines p)
 
--- every line is fine by the rules of a line, and p is what they hold
+-- every line is fine by the rules of a line: none breaks one, after what the lines before it hold; and p is what all of them hold
 pub record Fine (ls : List (List ℕ)) (p : Progress) : Type 0 where
   pub are : read_lines nothing 1 ls ≡ Ok p
+  pub unbroken : (before : List (List ℕ)) (bs : List ℕ) (after : List (List ℕ)) (q : Progress) (why : Reason) → ls ≡ before ++ bs ∷ after → read_lines nothing 1 before ≡ Ok q → FirstBroken why q bs → ⊥
   pub lined : Lined ls p
 
 -- a thread without instructions begins on line n
