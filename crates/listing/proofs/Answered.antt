@@ -4,13 +4,13 @@ use Rattle.std.proofs.lemmas.Bool.{le-leb, lt-leb, cond-true, cond-false}
 use Rattle.listing.specs.declared.refusal.Reason.TheVariants.{TextTooLong}
 use Rattle.listing.specs.declared.refusal.Refusal.{Refusal}
 use Rattle.listing.specs.Code.{Code}
-use Rattle.listing.specs.Laws.{Exactly, FirstWrong}
+use Rattle.listing.specs.Laws.{Exactly, FirstWrong, OneOrOther}
 use Rattle.listing.specs.Reading.{Progress, nothing, refusal, line, read_lines, after_lines, reading}
 use Rattle.listing.specs.Words.{lines, line_of, rest_of}
 use Rattle.listing.proofs.Exact.{exactly}
-use Rattle.listing.proofs.FirstWrong.{first_wrong}
 use Rattle.listing.proofs.NextLine.{next_line, no_lines}
 use Rattle.listing.proofs.Results.{onto}
+use Rattle.listing.proofs.WrongRefused.{first_wrong, one_or_other}
 
 module _ (t : List ℕ) (r : Result Code Refusal) (e : r ≡ reading t) where
   pub exactly_read : Exactly t r
@@ -18,6 +18,9 @@ module _ (t : List ℕ) (r : Result Code Refusal) (e : r ≡ reading t) where
 
   pub first_wrong_read : FirstWrong t r
   first_wrong_read = subst (FirstWrong t) (sym e) (first_wrong t)
+
+  pub one_or_other_read : OneOrOther t r
+  one_or_other_read = subst (OneOrOther t) (sym e) (one_or_other t)
 
 pub too_long : (t : List ℕ) → 4096 < length t → Err (refusal TextTooLong 0) ≡ reading t
 unfolding reading

@@ -9,7 +9,7 @@ use Rattle.listing.specs.Spelling.{Spells}
 use Rattle.listing.specs.Words.{lines}
 use Rattle.listing.proofs.ByWords.{read_by_words, read_permitted}
 use Rattle.listing.proofs.Laid.{laid_words, laid_permitted, words_laid}
-use Rattle.listing.proofs.PlainText.{plain_text, plain_spells, plain_short}
+use Rattle.listing.proofs.PlainText.{plain_bytes, plain_text, plain_spells, plain_short}
 use Rattle.listing.proofs.Results.{passed}
 use Rattle.listing.proofs.SpelledWords.{spelled_words}
 use Rattle.listing.proofs.WordLines.{word_lines, with_words}
@@ -46,7 +46,7 @@ pub exactly : (t : List ℕ) → Exactly t (reading t)
 exactly t = record { only = read_spells t; every = spells_read t }
 
 pub in_reach : InReach
-in_reach c limits = (plain_text c, spells_read (plain_text c) c (plain_short c limits) (plain_spells c limits))
+in_reach c limits = (plain_text c, (plain_bytes c limits, spells_read (plain_text c) c (plain_short c limits) (plain_spells c limits)))
 
 pub programs_in_reach : ProgramsInReach
 programs_in_reach p = in_reach (code_of p) p.ok

@@ -8,6 +8,7 @@ pub mod Exact
 pub mod Examples
 pub mod Failing
 pub mod Finishing
+pub mod FirstFailing
 pub mod FirstReads
 pub mod FirstWords
 pub mod FirstWrong
@@ -42,3 +43,4 @@ pub mod WordLines
 pub mod WordSpells
 pub mod WordsInTurn
 pub mod WordsSpell
+pub mod WrongRefused

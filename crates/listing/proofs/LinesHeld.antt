@@ -1,5 +1,5 @@
 -- What has been read is what the lines say, each part beside its line, in the order of the lines. Assumes nothing.
-use Rattle.std.proofs.Common.{◌≡◌, ℕ, ◌+◌, ◌<◌, true, not, List, [], ◌∷◌, ◌++◌, length, is_some, Ok, sym, refl, ap, ◌∙◌, subst, arith}
+use Rattle.std.proofs.Common.{◌≡◌, ℕ, ◌+◌, ◌<◌, true, not, List, [], ◌∷◌, ◌++◌, length, is_some, Some, Ok, sym, refl, ap, ◌∙◌, subst, arith}
 use Rattle.std.proofs.lemmas.Bool.{and_parts}
 use Rattle.std.proofs.lemmas.List.{append-nil, append_assoc, length_push, nil_from_length}
 use Rattle.std.proofs.lemmas.List.Elements.{Contains-append_left, Contains-push}
@@ -86,6 +86,7 @@ held_there (b ∷ before) here after p q n l s h says =
 
 -- each part stands beside a line below n that says it
 record Placed (every : List (List ℕ)) (n : ℕ) (p : Progress) : Type 0 where
+  bound : (k : ℕ) → p.bound ≡ Some k → (m : ℕ) × SaysOn every m (bound_line k)
   threads : Pairwise (λ m t. SaysOn every m thread_line) p.thread_lines p.threads
   instructions : Pairwise (Pairwise (λ m i. SaysOn every m (instruction_line i))) p.instruction_lines p.threads
   faults : Pairwise (λ m cs. SaysOn every m (fault_line cs)) p.fault_lines p.faults
@@ -100,7 +101,7 @@ put_last n a b c e none = rw (e, none) (append-nil (a ++ n ∷ []) ∙ ap (λ r.
 
 module _ (every : List (List ℕ)) (n : ℕ) (p : Progress) where
   skip : Placed every n p → Placed every (n + 1) p
-  skip h = record { threads = h.threads; instructions = h.instructions; faults = h.faults; rising = h.rising; below = below_more (part_lines p) n h.below }
+  skip h = record { bound = h.bound; threads = h.threads; instructions = h.instructions; faults = h.faults; rising = h.rising; below = below_more (part_lines p) n h.below }
 
   module _ (q : Progress) (h : Placed every n p) (last : part_lines q ≡ part_lines p ++ n ∷ []) where
     rises : Rising (part_lines q)
@@ -111,11 +112,12 @@ module _ (every : List (List ℕ)) (n : ℕ) (p : Progress) where
 
   placed_more : (l : Line) → Sound p → stands p l ≡ true → SaysOn every n l → Placed every n p → Placed every (n + 1) (with_line p n l)
   placed_more (bound_line k) s stood says h =
-      record { threads = h.threads; instructions = h.instructions; faults = h.faults; rising = h.rising; below = below_more (part_lines p) n h.below }
+      record { bound = λ j e. let same : k ≡ j = cc in (n, subst (λ i. SaysOn every n (bound_line i)) same says); threads = h.threads; instructions = h.instructions; faults = h.faults; rising = h.rising; below = below_more (part_lines p) n h.below }
   placed_more thread_line s stood says h =
       let none = no_fault_lines p s (and_parts (is_some p.bound) (not (some p.faults)) stood).1 in
       let last = put_last n (thread_by_thread p.thread_lines p.instruction_lines) _ p.fault_lines (thread_more p.thread_lines p.instruction_lines n (as_long p s)) none in
       record {
+        bound = h.bound;
         threads = pairwise_append _ p.thread_lines (n ∷ []) p.threads ([] ∷ []) h.threads (says, tt);
         instructions = pairwise_append _ p.instruction_lines ([] ∷ []) p.threads ([] ∷ []) h.instructions (tt, tt);
         faults = h.faults;
@@ -128,6 +130,7 @@ module _ (every : List (List ℕ)) (n : ℕ) (p : Progress) where
       let rows = some_rows AsLong p.instruction_lines p.threads s.instruction_lines there.0 in
       let last = put_last n (thread_by_thread p.thread_lines p.instruction_lines) _ p.fault_lines (instruction_more p.thread_lines p.instruction_lines n (as_long p s) rows) none in
       record {
+        bound = h.bound;
         threads = pairwise_beside (λ m. SaysOn every m thread_line) p.thread_lines p.threads i h.threads;
         instructions = pairwise_grown (λ m j. SaysOn every m (instruction_line j)) p.instruction_lines p.threads n i h.instructions says;
         faults = h.faults;
@@ -142,6 +145,7 @@ module _ (every : List (List ℕ)) (n : ℕ) (p : Progress) where
   placed_more (fault_line cs) s stood says h =
       let last = sym (append_assoc (thread_by_thread p.thread_lines p.instruction_lines) p.fault_lines (n ∷ [])) in
       record {
+        bound = h.bound;
         threads = h.threads;
         instructions = h.instructions;
         faults = pairwise_append _ p.fault_lines (n ∷ []) p.faults (cs ∷ []) h.faults (says, tt);
@@ -162,7 +166,7 @@ placed_lines every (bs ∷ ls) seen p q n are counted s h r =
 
 module _ (ls : List (List ℕ)) (p : Progress) (h : read_lines nothing 1 ls ≡ Ok p) where
   placed : (m : ℕ) × Placed ls m p
-  placed = placed_lines ls ls [] nothing p 1 refl refl nothing_sound (record { threads = tt; instructions = tt; faults = tt; rising = tt; below = tt }) h
+  placed = placed_lines ls ls [] nothing p 1 refl refl nothing_sound (record { bound = λ k e. cc; threads = tt; instructions = tt; faults = tt; rising = tt; below = tt }) h
 
   pub rising_lines : Rising (part_lines p)
   rising_lines = placed.1.rising
@@ -173,6 +177,7 @@ module _ (ls : List (List ℕ)) (p : Progress) (h : read_lines nothing 1 ls ≡ 
         all_held = λ n l s.
             let at : 1 + length s.before ≡ n = omega (arith, s.counted) in
             subst (λ k. Held p k l) at (held_there s.before s.here s.after nothing p 1 l nothing_sound (subst (λ v. read_lines nothing 1 v ≡ Ok p) s.are h) s.says);
+        bound = placed.1.bound;
         threads = placed.1.threads;
         instructions = placed.1.instructions;
         faults = placed.1.faults;

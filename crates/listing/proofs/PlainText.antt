@@ -1,9 +1,9 @@
 -- A plain text of a program: single spaces between words, a line end after each row, and no leading zero. It spells the program and is short. Assumes nothing.
-use Rattle.std.proofs.Common.{◌≡◌, ℕ, ◌+◌, ◌*◌, ◌/◌, ◌%◌, ◌<◌, ◌≤◌, true, cond, ltb, leb, List, [], ◌∷◌, ◌++◌, map, length, refl, subst, zero-le, arith, lit≤}
+use Rattle.std.proofs.Common.{◌≡◌, ℕ, ◌+◌, ◌*◌, ◌/◌, ◌%◌, ◌<◌, ◌≤◌, true, cond, ltb, leb, List, [], ◌∷◌, ◌++◌, map, length, refl, subst, zero-le, arith, lit≤, inl, inr}
 use Rattle.std.specs.List.{flat_map, AllByRecursion as All}
 use Rattle.listing.proofs.Recursive as elements
 use Rattle.std.proofs.lemmas.List.{length-append}
-use Rattle.std.proofs.lemmas.Bool.{and_parts, and_from, or_right, cond_both, leb-true, ltb-true}
+use Rattle.std.proofs.lemmas.Bool.{and_parts, and_from, or_cases, or_right, cond_both, leb-true, lt-ltb, ltb-true}
 use Rattle.listing.specs.declared.code.Condition.{Condition}
 use Rattle.listing.specs.declared.code.Condition.TheVariants as condition
 use Rattle.listing.specs.declared.code.Instruction.{Instruction}
@@ -15,14 +15,15 @@ use Rattle.listing.specs.declared.code.Register.TheVariants as register
 use Rattle.listing.specs.declared.code.Variable.{Variable}
 use Rattle.listing.specs.declared.code.Variable.TheVariants as variable
 use Rattle.listing.specs.Code.{Code}
+use Rattle.listing.specs.Laws.{are_bytes}
 use Rattle.listing.specs.Limits.{all, together, thread_keeps, fault_keeps}
 use Rattle.listing.specs.Names.{variable_word, register_word}
 use Rattle.listing.specs.Spelling.{Item, name, number, Writes, one_digit, two_digits, Spelled, Pairwise, operand_item, instruction_items, condition_items, thread_rows, fault_row, rows, in_word, Solid, Shows, no_words, last_word, word, plain, Text, no_rows, row, keeps_limits, Spells}
 use Rattle.listing.specs.Values.{operand_fits, instruction_fits, condition_fits}
-use Rattle.listing.specs.Words.{is_letter}
+use Rattle.listing.specs.Words.{is_letter, is_digit}
 use Rattle.listing.proofs.Counts.{at_most}
 use Rattle.listing.proofs.Grown.{together_append}
-use Rattle.listing.proofs.Kept.{each}
+use Rattle.listing.proofs.Kept.{each, all_from_each}
 use Rattle.listing.proofs.Pairs.{pairwise_map}
 use Rattle.listing.proofs.Within.{thread_parts, fault_parts, within}
 use Rattle.listing.proofs.WordSpells.{digit_from}
@@ -115,6 +116,26 @@ rows_length : (rs : List (List Item)) → All Full rs → length (rows_text rs) 
 rows_length [] h = zero-le
 rows_length ([] ∷ rs) h = absurd h.0
 rows_length ((i ∷ is) ∷ rs) h = simp length-append (omega (arith, row_length i is h.0, rows_length rs h.1))
+
+letters_are_bytes : (b : ℕ) → in_word b ≡ true → b < 256
+letters_are_bytes b h =
+    elim (or_cases (is_letter b) (is_digit b) h) [
+      | inl letter ↦ let top = leb-true b 122 (and_parts (leb 97 b) (leb b 122) letter).1 in omega (arith, top)
+      | inr digit ↦ let top = leb-true b 57 (and_parts (leb 48 b) (leb b 57) digit).1 in omega (arith, top)
+    ]
+
+word_bytes : (w : List ℕ) → Solid w → All (λ b. b < 256) w
+word_bytes [] h = absurd h
+word_bytes (b ∷ w) h = elements.all_weaker (λ b. in_word b ≡ true) (λ b. b < 256) letters_are_bytes (b ∷ w) (each in_word (b ∷ w) h)
+
+row_bytes : (is : List Item) → All Sound is → All (λ b. b < 256) (row_text is)
+row_bytes [] h = tt
+row_bytes (i ∷ []) h = word_bytes (item_word i) (item_solid i h.0)
+row_bytes (i ∷ j ∷ is) h = elements.all_append (λ b. b < 256) (item_word i) (32 ∷ row_text (j ∷ is)) (word_bytes (item_word i) (item_solid i h.0)) (omega arith, row_bytes (j ∷ is) h.1)
+
+rows_bytes : (rs : List (List Item)) → All Full rs → All (λ b. b < 256) (rows_text rs)
+rows_bytes [] h = tt
+rows_bytes (r ∷ rs) h = elements.all_append (λ b. b < 256) (row_text r) (10 ∷ rows_text rs) (row_bytes r (full_sound r h.0)) (omega arith, rows_bytes rs h.1)
 
 variable_sound : (v : Variable) → Sound (name (variable_word v))
 variable_sound variable.A = (refl, lit≤ tt)
@@ -251,3 +272,9 @@ plain_spells c h =
 pub plain_short : (c : Code) → keeps_limits c ≡ true → length (plain_text c) ≤ 4096
 unfolding plain_text
 plain_short c h = let k = limited c h in omega (arith, rows_length (rows c) k.full, k.few)
+
+pub plain_bytes : (c : Code) → keeps_limits c ≡ true → are_bytes (plain_text c) ≡ true
+unfolding plain_text
+plain_bytes c h =
+    let bytes = rows_bytes (rows c) (limited c h).full in
+    all_from_each (λ b. ltb b 256) (plain_text c) (elements.all_weaker (λ b. b < 256) (λ b. ltb b 256 ≡ true) (λ b l. lt-ltb b 256 l) (rows_text (rows c)) bytes)

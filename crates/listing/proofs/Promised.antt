@@ -46,8 +46,8 @@ wrong_length t e (astray short p n fine used both first) h = absurd (omega arith
 pub length_promised : (t : List ℕ) (r : Result Program Refusal) → Exactly t (told code_of r) → FirstWrong t (told code_of r)
     → MatchResult r (λ _. length t ≤ 4096) (λ e. 4096 < length t → Refused TextTooLong 0 e)
 length_promised t (Ok p) x w = (x.only (code_of p) refl).0
-length_promised t (Err e) x w = wrong_length t e w
+length_promised t (Err e) x w = wrong_length t e (w.only e refl)
 
 pub reason_promised : (t : List ℕ) (r : Result Program Refusal) → FirstWrong t (told code_of r) → IfErr r (λ e. of_reading e.reason ≡ true)
 reason_promised t (Ok p) w = tt
-reason_promised t (Err e) w = wrong_reason t e w
+reason_promised t (Err e) w = wrong_reason t e (w.only e refl)

@@ -52,7 +52,7 @@ module _ (p : Progress) (n : ℕ) where
   clean : (bs : List ℕ) → foreign bs ≡ false → line p n bs ≡ worded p n (words (content_of bs))
   clean bs h = cond-true (all permitted (content_of bs)) _ _ (was_true _ h)
 
-  broken_refused : (why : Reason) (bs : List ℕ) → FirstBroken why p bs → line p n bs ≡ Err (refusal why n)
+  pub broken_refused : (why : Reason) (bs : List ℕ) → FirstBroken why p bs → line p n bs ≡ Err (refusal why n)
   broken_refused TextTooLong bs h = absurd h
   broken_refused ByteNotPermitted bs h = cond-false (all permitted (content_of bs)) _ _ (was_false _ h)
   broken_refused NoForm bs h = clean bs h.0 ∙ formless_refused (words (content_of bs)) h.1

@@ -1,6 +1,6 @@
 -- What reading a text means.
 --   Exactly t r        the reading r of t is a program exactly when t has at most 4,096 bytes and spells it
---   InReach            each program within the limits is what some text reads as; and ProgramsInReach, of programs that exist
+--   InReach            each program within the limits is what some text of bytes (are_bytes) reads as; and ProgramsInReach, of programs that exist
 --   KnownByLists       programs with the same lists are the same
 --   foreign, formless, unranged, crowded    a line breaks the rule on bytes, on forms, on ranges, on counts
 --   FirstBroken why p bs   the line bs, after what p holds, breaks that rule and none that comes earlier in the order
@@ -14,9 +14,10 @@
 --   EmptyOn p n        a thread without instructions begins on line n
 --   AstrayOn p n       line n names a place or a thread that is not there, in a jump (JumpAstrayOn) or in a condition (FaultAstrayOn)
 --   First P n          n is the first line at which P holds
---   Wrong t e          what the refusal e of t says: the first thing wrong with it; FirstWrong t r: so of a reading that is refused
---   OneOrOther r       a reading is a program or a refusal, and never both
-use Rattle.std.specs.Prelude.{◌≡◌, ℕ, ◌+◌, ◌<◌, ◌≤◌, Bool, true, false, not, ◌&&◌, ◌||◌, ◌⊎◌, List, [], ◌∷◌, ◌++◌, length, AllPairs, Contains, Some, Ok, Err, Result, ◌≢◌}
+--   Wrong t e          the first thing wrong with t, by the reason and the line of e
+--   FirstWrong t r     the reading r of t is a refusal exactly when that is the first thing wrong with t
+--   OneOrOther t r     t is read or refused: it spells a program or something is wrong with it, never both, and never two of either
+use Rattle.std.specs.Prelude.{◌≡◌, ℕ, ◌+◌, ◌<◌, ◌≤◌, Bool, true, false, not, ◌&&◌, ◌||◌, ◌⊎◌, List, [], ◌∷◌, ◌++◌, length, AllPairs, Contains, Some, Ok, Err, Result, nat_lt}
 use Rattle.listing.specs.declared.refusal.Reason.{Reason}
 use Rattle.listing.specs.declared.refusal.Reason.TheVariants.{TextTooLong, ByteNotPermitted, NoForm, NumberOutOfRange, TooMany, Missing, TargetMissing, NoProgram, PlaceMissing, AlreadySo, RunListTooShort, NoPlacement, PlaceNotKept, TooFewRows, NoneEnough, BufferTooShort}
 use Rattle.listing.specs.declared.refusal.Refusal.{Refusal}
@@ -32,8 +33,11 @@ pub record Exactly (t : List ℕ) (r : Result Code Refusal) : Type 0 where
   pub only : (c : Code) → r ≡ Ok c → (length t ≤ 4096) × Spells t c
   pub every : (c : Code) → length t ≤ 4096 → Spells t c → r ≡ Ok c
 
+abbrev pub are_bytes : List ℕ → Bool
+are_bytes t = all (λ b. nat_lt b 256) t
+
 abbrev pub InReach : Type 0
-InReach = (c : Code) → keeps_limits c ≡ true → (t : List ℕ) × (reading t ≡ Ok c)
+InReach = (c : Code) → keeps_limits c ≡ true → (t : List ℕ) × ((are_bytes t ≡ true) × (reading t ≡ Ok c))
 
 -- The rules of a line, each by itself: a line may break several.
 abbrev pub foreign : List ℕ → Bool
@@ -125,6 +129,7 @@ part_lines p = thread_by_thread p.thread_lines p.instruction_lines ++ p.fault_li
 -- p holds what the lines say, each part beside the line that says it, in the order of the lines
 pub record Lined (ls : List (List ℕ)) (p : Progress) : Type 0 where
   pub all_held : (n : ℕ) (l : Line) → SaysOn ls n l → Held p n l
+  pub bound : (k : ℕ) → p.bound ≡ Some k → (n : ℕ) × SaysOn ls n (bound_line k)
   pub threads : Pairwise (λ n t. SaysOn ls n thread_line) p.thread_lines p.threads
   pub instructions : Pairwise (Pairwise (λ n i. SaysOn ls n (instruction_line i))) p.instruction_lines p.threads
   pub faults : Pairwise (λ n cs. SaysOn ls n (fault_line cs)) p.fault_lines p.faults
@@ -163,17 +168,19 @@ pub data Wrong (t : List ℕ) : Refusal → Type 0 where
   lacking : length t ≤ 4096 → (p : Progress) → Fine (lines t) p → all some p.threads ≡ true → (some p.threads && some p.faults) ≡ false → Wrong t (refusal Missing 0)
   astray : length t ≤ 4096 → (p : Progress) (n : ℕ) → Fine (lines t) p → all some p.threads ≡ true → (some p.threads && some p.faults) ≡ true → First (AstrayOn p) n → Wrong t (refusal TargetMissing n)
 
-abbrev pub FirstWrong : List ℕ → Result Code Refusal → Type 0
-FirstWrong t (Ok c) = Unit {0}
-FirstWrong t (Err e) = Wrong t e
+pub record FirstWrong (t : List ℕ) (r : Result Code Refusal) : Type 0 where
+  pub only : (e : Refusal) → r ≡ Err e → Wrong t e
+  pub every : (e : Refusal) → Wrong t e → r ≡ Err e
 
--- a reading is a program or a refusal
-abbrev pub OneOrOther : Result Code Refusal → Type 0
-OneOrOther r = (((c : Code) × (r ≡ Ok c)) ⊎ ((e : Refusal) × (r ≡ Err e))) × ((c : Code) (e : Refusal) → r ≡ Ok c → r ≢ Err e)
+pub record OneOrOther (t : List ℕ) (r : Result Code Refusal) : Type 0 where
+  pub either : ((c : Code) × ((r ≡ Ok c) × Spells t c)) ⊎ ((e : Refusal) × ((r ≡ Err e) × Wrong t e))
+  pub not_both : (c : Code) (e : Refusal) → length t ≤ 4096 → Spells t c → Wrong t e → ⊥
+  pub one_program : (c d : Code) → length t ≤ 4096 → Spells t c → Spells t d → c ≡ d
+  pub one_refusal : (d e : Refusal) → Wrong t d → Wrong t e → d ≡ e
 
 -- each program is what some text reads as
 abbrev pub ProgramsInReach : Type 0
-ProgramsInReach = (p : Program) → (t : List ℕ) × (reading t ≡ Ok (code_of p))
+ProgramsInReach = (p : Program) → (t : List ℕ) × ((are_bytes t ≡ true) × (reading t ≡ Ok (code_of p)))
 
 -- a program is known by its lists
 abbrev pub KnownByLists : Type 0

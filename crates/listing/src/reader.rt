@@ -27,7 +27,7 @@ pub fn read(text: &[u8]) -> Result<Program, Refusal>
     ensures value { told code_of result ≡ reading text.now }
     ensures exactly { Exactly text.now (told code_of result) }
     ensures first_wrong { FirstWrong text.now (told code_of result) }
-    ensures one_or_other { OneOrOther (told code_of result) }
+    ensures one_or_other { OneOrOther text.now (told code_of result) }
 {
     if !short_enough(text.len()) {
         return Err(Reason::TextTooLong.refusal());

@@ -6,8 +6,7 @@ use Rattle.listing.specs.Code.{code_of}
 use Rattle.listing.specs.Drafts.{progress_of}
 use Rattle.listing.specs.Reading.{line, read_lines, told, reading, refusal}
 use Rattle.listing.specs.Words.{lines}
-use Rattle.listing.proofs.Answered.{exactly_read, first_wrong_read, too_long, after_all, next_fine, next_refused, none_left}
-use Rattle.listing.proofs.FirstWrong.{one_or_other}
+use Rattle.listing.proofs.Answered.{exactly_read, first_wrong_read, one_or_other_read, too_long, after_all, next_fine, next_refused, none_left}
 use Rattle.listing.proofs.Promised.{length_promised, reason_promised}
 use Rattle.listing.proofs.reader.read.Goals as goal
 
@@ -23,7 +22,7 @@ returns-then-not-short_enough c =
       value = is;
       exactly = exactly_read t _ is;
       first_wrong = first_wrong_read t _ is;
-      one_or_other = one_or_other _;
+      one_or_other = one_or_other_read t _ is;
     }
 
 pub returns-in_err-read_line : goal.returns-in_err-read_line
@@ -35,7 +34,7 @@ returns-in_err-read_line c =
     let some : 0 < length left = omega arith in
     let wrong = next_refused (progress_of c.loop-rest.draft) (c.loop-rest.line + 1) left some c.in_err-read_line.field-0.0 (ap (line (progress_of c.loop-rest.draft) (c.loop-rest.line + 1)) (sym c.first_line.ensures.line) ∙ c.in_err-read_line.ensures.adds) in
     let is : told code_of c.from_residual.result ≡ reading t = rw (x.1, x.2) (after_all t (Err c.in_err-read_line.field-0.0) (leb-true (length t) 4096 (sym c.if-not-short_enough.ensures)) (sym c.loop-rest.invariant.1 ∙ wrong)) in
-    record { length = length_promised t _ (exactly_read t _ is) (first_wrong_read t _ is); reason = reason_promised t _ (first_wrong_read t _ is); value = is; exactly = exactly_read t _ is; first_wrong = first_wrong_read t _ is; one_or_other = one_or_other _ }
+    record { length = length_promised t _ (exactly_read t _ is) (first_wrong_read t _ is); reason = reason_promised t _ (first_wrong_read t _ is); value = is; exactly = exactly_read t _ is; first_wrong = first_wrong_read t _ is; one_or_other = one_or_other_read t _ is }
 
 pub loop-rest-preserved : goal.loop-rest-preserved
 loop-rest-preserved c =
@@ -51,4 +50,4 @@ returns c =
     let left = c.loop-rest.rest.now in
     let whole = none_left (progress_of c.loop-rest.draft) (c.loop-rest.line + 1) left (eqb-true (length left) 0 (sym c.loop-rest-test.ensures)) in
     let is : told code_of c.finish.result ≡ reading t = c.finish.ensures.value ∙ after_all t (Ok (progress_of c.loop-rest.draft)) (leb-true (length t) 4096 (sym c.if-not-short_enough.ensures)) (sym c.loop-rest.invariant.1 ∙ whole) in
-    record { length = length_promised t _ (exactly_read t _ is) (first_wrong_read t _ is); reason = reason_promised t _ (first_wrong_read t _ is); value = is; exactly = exactly_read t _ is; first_wrong = first_wrong_read t _ is; one_or_other = one_or_other _ }
+    record { length = length_promised t _ (exactly_read t _ is) (first_wrong_read t _ is); reason = reason_promised t _ (first_wrong_read t _ is); value = is; exactly = exactly_read t _ is; first_wrong = first_wrong_read t _ is; one_or_other = one_or_other_read t _ is }
