@@ -1,8 +1,9 @@
 -- Worked examples of reading, as rows of one table.
---   plain k d          a program with the bound k and one thread `store a d`, which no run takes to its fault
+--   Example            a text, and what it reads as
+--   plain k d          a program with the bound k and one thread `store a d`, which no run takes to its fault unless d is 2
 --   jumping n          the same with `jump n` after it
---   every_form         a program with each form of an instruction and of a condition, and its text
---   counting ts m n    a program whose threads have so many fences, and m fault lines of n conditions, and its text
+--   every_form         a program with each form of an instruction and of a condition; every_form_text: its text
+--   counting ts m n    a program whose threads have so many fences, and m fault lines of n conditions; counting_text: its text
 --   examples           texts, with the program or the refusal that each reads as
 --   ExamplesRead      the table is right
 use Rattle.std.specs.Prelude.{◌≡◌, ℕ, List, [], ◌∷◌, ◌++◌, map, replicate, Ok, Err, codes, Result}
