@@ -9,7 +9,8 @@
 --   thread_at p n     the thread that the place n lies in
 --   places p          the number of places
 --   lines_of p        the fault lines
---   line_sound l      a fault line has at most six conditions, and each of them names one of four threads
+--   condition_sound c if a condition names a thread, it names one of four
+--   line_sound l      a fault line has at most six conditions, and each of them is sound
 use Rattle.std.specs.Prelude.{ℕ, ◌+◌, Bool, true, cond, ◌&&◌, List, [], length, take, Option, nat_le, nat_lt, slice_get, slice_index_or}
 use Rattle.listing.specs.declared.code.Variable.{Variable}
 use Rattle.listing.specs.declared.code.Variable.TheVariants as variable

@@ -1,7 +1,8 @@
 -- What a word may be, and the forms of a line.
---   Says X             what words say: they are no form, or a number is out of its range, or they mean something
+--   Says X             what words say: they are no form (no_form), or a number is out of its range (out_of_range), or they mean something (means)
 --   apply f x          what parts say together: no form if one of them is none, else out of range if one of them is
 --   called o           a word that names something is a form
+--   ranged low high o  a number, in its range if it is there and lies from low to high
 --   number low high w  a word of digits, in its range if it has one or two of them and writes a number from low to high
 --   variable, register, bound, value, thread, target, operand    what a word may be; a value is 0 to 15, a target 0 to 16
 --   first reads ws     what the first of the words says; there has to be one
@@ -9,9 +10,11 @@
 --   ended ws s         what was said if no words are left
 --   one, two, three, four    a form of so many words, taken one by one
 --   instruction m ws   what an instruction's words say: its first word, and the words after it
+--   more x xs          what a condition and those after it say together
 --   conditions n ws    what the conditions of a fault line say, n at most; all_conditions: as many as there may be
 --   fault ws           a fault line has a condition
---   Line               what a line adds to a program
+--   Line               what a line adds to a program: bound_line, thread_line, instruction_line, fault_line
+--   bound_form, thread_form, instruction_form, fault_form    what a line of that kind says
 --   form w ws          what a line says: its first word, and the words after it
 use Rattle.std.specs.Prelude.{ℕ, zero, suc, cond, List, [], ◌∷◌, length, Some, None, codes, Option}
 use Rattle.listing.specs.declared.code.Condition.{Condition}

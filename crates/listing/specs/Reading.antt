@@ -3,8 +3,11 @@
 --   refusal why n      a refusal at line n
 --   Progress           what has been read so far: the program's parts, and the lines that they stand on
 --   nothing            before the first line
+--   some xs            a list has an element
 --   may_stand p w      a line with this first word may stand here
+--   last_length ls     how long the last of some lists is, 0 where there is none
 --   room p l           what the line adds is not one too many
+--   grown ls x         some lists with x at the end of the last of them
 --   with_line p n l    what has been read with one line more, which is line n
 --   bound_stands, thread_stands, instruction_stands, fault_stands    such a line may stand here
 --   held p n s         the rules of a line that has words and may stand here
@@ -13,7 +16,13 @@
 --   line p n bs        the rules of one line, in their order
 --   read_lines p n ls  line by line from the top, where the next line is line n
 --   first_failing      the line of the first part that fails a test
---   finished p         the rules after the last line
+--   or_else m n        the line m, or n where there is no m
+--   jump_failing       the line of the first jump past its thread's length
+--   target_failing p   that line, or else the first fault line that names what is not there
+--   targeted p k o     the program with the bound k, or the refusal of the line o, which names what is not there
+--   complete p o       the same with the bound o, where bound, threads and fault lines are there; else one of them is missing
+--   filled p o         the same where no thread is empty; else the refusal of the line o, on which an empty one begins
+--   finished p         the rules after the last line; after_lines: the same, unless a line was refused
 --   reading text       the program that a text holds, or the refusal of it
 use Rattle.std.specs.Prelude.{ℕ, ◌+◌, Bool, true, false, cond, not, ◌&&◌, List, [], ◌∷◌, ◌++◌, length, is_some, Some, None, Ok, Err, codes, Option, Result, nat_le, nat_lt}
 use Rattle.listing.specs.declared.code.Condition.{Condition}

@@ -1,4 +1,5 @@
 -- The number of each refusal.
+--   number_of why      the number of a refusal for that reason
 use Rattle.std.specs.Prelude.{ℕ}
 use Rattle.listing.specs.declared.refusal.Reason.{Reason}
 use Rattle.listing.specs.declared.refusal.Reason.TheVariants as reason

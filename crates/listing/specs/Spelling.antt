@@ -1,14 +1,17 @@
 -- How a program is spelled, from the program to the texts that hold it.
---   Item               a word of a line: a name as it stands, or a number in any spelling
---   Writes n w         the word w is a spelling of n, in one digit or in two
+--   Item               a word of a line: a name as it stands (name), or a number in any spelling (number)
+--   Writes n w         the word w is a spelling of n, in one digit (one_digit) or in two (two_digits)
 --   Spelled i w        the word w spells the item i
 --   Pairwise R xs ys   the lists are of one length, and R holds of each two that stand at one place
---   instruction_items  the words of an instruction's line; and condition_items, thread_rows, fault_row
+--   instruction_items  the words of an instruction's line; and condition_items, thread_rows, fault_row; operand_item: the word of an operand
 --   rows c             the lines of words of a program, in order
+--   in_word b          a byte is a letter or a digit
 --   Solid w            a word has a byte, and its bytes are letters and digits
---   Shows ws bs        the bytes have these words, with any spaces before, between and after them
---   Row ws bs          the same, with or without a comment
---   Text wss t         a text whose lines with words have these words, with any lines without words
+--   Shows ws bs        the bytes have these words, with any spaces before, between and after them: no_words, space, last_word, word
+--   WithinLine bs      none of the bytes ends a line
+--   Row ws bs          the same, with or without a comment: commented, plain
+--   kept ws wss        the lines wss with the line of the words ws before them, if it has words
+--   Text wss t         a text whose lines with words have these words, with any lines without words: no_rows, last_row, row
 --   keeps_limits c     the limits of a program
 --   Spells t c         the text t holds the program c
 use Rattle.std.specs.Prelude.{◌≡◌, ℕ, ◌+◌, ◌*◌, ◌<◌, Bool, true, false, ◌||◌, List, [], ◌∷◌, ◌++◌, map, codes, ◌==◌}

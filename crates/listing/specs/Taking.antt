@@ -3,6 +3,8 @@
 --   size w             how many bytes they stand in
 --   in_range low high o    a number that is there and lies from low to high
 --   said o             what words say whose numbers were looked at: a value, or a number is out of its range
+--   lift f o           what f makes of o, if both are there
+--   number_read low high ds    the number that is written so, if it lies from low to high
 --   operand_read w     the operand that is written so; and instruction_read, condition_read
 --   Valued o n r       an answer is the value, or the refusal of line n for a number out of its range
 --   Comes t ws vs n    the token t is the first of the words ws, on line n, and vs follow it
@@ -10,11 +12,13 @@
 --   mnemonic_word k    the first word of an instruction
 --   Begins w n r       the word w is that of a mnemonic, or no instruction begins with it
 --   Operands m w v r   the words of an instruction were taken from w and v is left; else the line is no form
+--   Whole m w r        the words of w are all those of an instruction after its first word m; else the line is no form
 --   bound_read ds, written_read i, fault_read w     what a line says that is a bound, an instruction, a fault line
 --   line_read l        what a line says by its form
 --   line_stands p l    it may stand here
 --   FormedBy t w r     a line whose first word is t, and whose others are w, has that form, or none
 --   TookCondition w v r      a condition was taken from w and v is left, or there was none to take; else the line is no form
+--   fitted n s         what a fault line on line n answers whose words say s; counted n cs: of the conditions cs, six of them at most
 use Rattle.std.specs.Prelude.{◌≡◌, ℕ, ◌<◌, Bool, true, false, cond, List, [], ◌∷◌, length, Some, None, Ok, Err, codes, Option, Result, nat_le}
 use Rattle.std.specs.Borrow.{Bor}
 use Rattle.listing.specs.declared.code.Condition.{Condition}

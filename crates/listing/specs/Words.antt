@@ -1,11 +1,13 @@
 -- What a text is cut into: lines, and their words.
 --   upto stop bs       bs before its first byte that stops
 --   onward stop bs     bs from that byte on
---   ends, parts, comments   the tests of a line end, a space and a comment sign
+--   ends, parts, comments   the tests of a line end, a space and a comment sign; is_letter, is_digit: of a letter and a digit
+--   kind b             what a byte is by these tests: a letter, a digit, a space, a comment sign, or another
 --   line_of text       the first line of a text
 --   rest_of text       what follows its line end
 --   content_of line    a line without its comment
 --   permitted b        a byte may stand outside a comment
+--   joined b ps        the pieces ps with the byte b at the front of the first, or b alone if there are none
 --   pieces stop bs     what stands before, between and after the bytes that stop; what follows the last of them only if it has a byte
 --   used ps            the pieces that have a byte
 --   lines text         the lines of a text: each ends with byte 10, which the last may lack

@@ -1,4 +1,5 @@
 -- What is written: the parts of a listing whose numbers are still the bytes of their digits.
+--   WrittenOperand     an operand as it is written; and WrittenInstruction, WrittenCondition
 use Rattle.std.specs.Prelude.{ℕ, List}
 use Rattle.std.specs.Borrow.{Bor}
 use Rattle.listing.specs.declared.code.Condition.{Condition}
