@@ -1,4 +1,6 @@
 -- The room of an array of which the first part is used.
+--   used_length       of an array that has room for them, the first n values are n
+--   whole_again       with fillers in the rest of the room they are the array, where it had fillers there
 use Rattle.std.specs.Prelude.{◌≡◌, ℕ, ◌-◌, ◌≤◌, List, ◌++◌, length, take, drop, replicate}
 use Rattle.std.proofs.Common.{length-take-le, ap, sym, ◌∙◌, arith}
 use Rattle.std.proofs.lemmas.List.{take-append-drop}

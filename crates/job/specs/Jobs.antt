@@ -1,11 +1,14 @@
 -- What a job holds, and what its calls answer.
---   seen j            the barred places and the kept placement; none of either where no program was read
---   Read j n          the job holds a program of n places, with no bars and no kept placement
+--   no_places         the empty set of places
+--   declined r        the refusal for that reason, which concerns no line
+--   seen j            the barred places and the kept placement; none of either where no program was read; seen_in: of what a job holds
+--   Read j n          the job holds a program of n places, with no bars and no kept placement; Fresh: the same of what a job holds
 --   Holds l c         the program c is held, with no bars and no kept placement
 --   ReadsAs s j k r   what reading leaves of the job j and answers, where the text reads as s: the program is held and r is the number of its places,
 --                     or r is the refusal and the job is as it was
---   solved j s        the job with the placement s kept
---   reported          what a report answers, and what it leaves in the buffer
+--   solved j s        the job with the placement s kept; keeping: what it holds then
+--   reported j out    what a report answers; reported_in: by what the job holds; report_kept: by the program and the kept placement
+--   buffer j out      what it leaves in the buffer; and buffer_in, buffer_kept
 use Rattle.std.specs.Prelude.{◌≡◌, ℕ, List, Some, None, Ok, Err, Option, Result}
 use Rattle.listing.specs.declared.refusal.Refusal.{Refusal}
 use Rattle.listing.specs.declared.refusal.Reason.{Reason}
