@@ -19,7 +19,7 @@
 use Rattle.std.specs.Prelude.{◌≡◌, ℕ, Bool, true, false, cond, not, ◌&&◌, ◌||◌, List, [], ◌∷◌, drop, ◌==◌, nat_le}
 use Rattle.listing.specs.Limits.{all}
 use Rattle.listing.specs.declared.lexer.Kind.{Kind}
-use Rattle.listing.specs.declared.lexer.Kind.TheVariants.{Letter, Digit, Space, Comment, Other}
+use Rattle.listing.specs.declared.lexer.Kind.TheVariants.{Letter, Digit, Space, LineEnd, Comment, Other}
 use Rattle.listing.specs.declared.lexer.Token.{Token}
 use Rattle.listing.specs.declared.lexer.Token.TheVariants.{Word, Number}
 
@@ -47,7 +47,7 @@ abbrev pub is_digit : ℕ → Bool
 is_digit b = nat_le 48 b && nat_le b 57
 
 abbrev pub kind : ℕ → Kind
-kind b = cond (is_letter b) Letter (cond (is_digit b) Digit (cond (parts b) Space (cond (comments b) Comment Other)))
+kind b = cond (is_letter b) Letter (cond (is_digit b) Digit (cond (parts b) Space (cond (ends b) LineEnd (cond (comments b) Comment Other))))
 
 abbrev pub permitted : ℕ → Bool
 permitted b = is_letter b || (is_digit b || parts b)

@@ -28,6 +28,7 @@ enum Kind {
     Letter,
     Digit,
     Space,
+    LineEnd,
     Comment,
     Other,
 }
@@ -39,6 +40,7 @@ fn kind_of(byte: u8) -> Kind
         'a'..='z' => Kind::Letter,
         '0'..='9' => Kind::Digit,
         ' ' => Kind::Space,
+        '\n' => Kind::LineEnd,
         '#' => Kind::Comment,
         _ => Kind::Other,
     }
@@ -46,6 +48,18 @@ fn kind_of(byte: u8) -> Kind
 
 // Tests of a byte, and searches, each a call of the library's generic `position` or `all`, which is proved where it is the
 // whole of a function.
+fn is_line_end(byte: u8) -> bool
+    ensures { result ≡ ends byte }
+{
+    matches!(kind_of(byte), Kind::LineEnd)
+}
+
+fn is_space(byte: u8) -> bool
+    ensures { result ≡ parts byte }
+{
+    matches!(kind_of(byte), Kind::Space)
+}
+
 fn is_comment(byte: u8) -> bool
     ensures { result ≡ comments byte }
 {
@@ -67,7 +81,7 @@ fn is_permitted(byte: u8) -> bool
 fn line_end(text: &[u8]) -> Option<usize>
     ensures { result ≡ position ends text.now }
 {
-    text.iter().position(|byte| *byte == b'\n')
+    text.iter().position(|byte| is_line_end(*byte))
 }
 
 fn comment_start(line: &[u8]) -> Option<usize>
@@ -85,7 +99,7 @@ fn all_permitted(bytes: &[u8]) -> bool
 fn word_end(bytes: &[u8]) -> Option<usize>
     ensures { result ≡ position parts bytes.now }
 {
-    bytes.iter().position(|byte| *byte == b' ')
+    bytes.iter().position(|byte| is_space(*byte))
 }
 
 fn all_digits(bytes: &[u8]) -> bool

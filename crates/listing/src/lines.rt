@@ -94,7 +94,7 @@ fn register_named(word: &[u8]) -> Option<Register>
     }
 }
 
-// A rule of the project: the parts of a line are had one by one by `let .. else`.
+// A rule of the project: the parts of a line are had one by one by `let .. else`. It stands here once for each kind of part.
 impl<'a> Words<'a> {
     // What the next word names.
     fn named<T: Drop, F: Fn(&[u8]) -> Option<T>>(&mut self, names: F) -> Result<T, Refusal>
@@ -342,7 +342,10 @@ pub fn number(low: u8, high: u8, digits: &[u8], line: u16) -> Result<u8, Refusal
     ensures value { MatchResult result (λ n. (n ≡ decimal digits.now) × ((low ≤ n) × (n ≤ high))) (Refused NumberOutOfRange line) }
     ensures read { Valued (number_read low high digits.entry) line result }
 {
-    in_range(low, high, digits).ok_or(Reason::NumberOutOfRange.at(line))
+    let Some(number) = in_range(low, high, digits) else {
+        return Err(Reason::NumberOutOfRange.at(line));
+    };
+    Ok(number)
 }
 
 pub(crate) fn bound(digits: &[u8], line: u16) -> Result<u8, Refusal>
@@ -355,7 +358,10 @@ pub fn instruction(written: WrittenInstruction<'_>, line: u16) -> Result<Instruc
     ensures value { MatchResult result (λ i. (i ≡ instruction_of written.entry) × (instruction_fits i ≡ true)) (Refused NumberOutOfRange line) }
     ensures read { Valued (instruction_read written.entry) line result }
 {
-    instruction_in_range(written).ok_or(Reason::NumberOutOfRange.at(line))
+    let Some(instruction) = instruction_in_range(written) else {
+        return Err(Reason::NumberOutOfRange.at(line));
+    };
+    Ok(instruction)
 }
 
 // The conditions of a fault line. All its words are taken before a number or the count is refused.
