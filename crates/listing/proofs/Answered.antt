@@ -6,7 +6,8 @@ use Rattle.listing.specs.declared.refusal.Refusal.{Refusal}
 use Rattle.listing.specs.Code.{Code}
 use Rattle.listing.specs.Laws.{Exactly, FirstWrong, OneOrOther}
 use Rattle.listing.specs.Reading.{Progress, nothing, refusal, line, read_lines, after_lines, reading}
-use Rattle.listing.specs.Words.{lines, line_of, rest_of}
+use Rattle.listing.specs.Words.{lines}
+use Rattle.listing.specs.Cuts.{line_of, rest_of}
 use Rattle.listing.proofs.Exact.{exactly}
 use Rattle.listing.proofs.NextLine.{next_line, no_lines}
 use Rattle.listing.proofs.Results.{onto}

@@ -6,7 +6,8 @@ use Rattle.std.specs.Prelude.{position}
 use Rattle.std.proofs.lemmas.Bool.{ltb-false}
 use Rattle.std.proofs.lemmas.List.{take_all, take_rest, drop_all, drop-drop}
 use Rattle.std.proofs.lemmas.List.Sums.{prefix_len-le-length}
-use Rattle.listing.specs.Words.{upto, onward, parts, past_spaces, next_word, after_word, ends, line_of, rest_of}
+use Rattle.listing.specs.Words.{upto, parts, ends}
+use Rattle.listing.specs.Cuts.{onward, past_spaces, next_word, after_word, line_of, rest_of}
 
 module _ (stop : ℕ → Bool) where
   pub upto_is : (bs : List ℕ) → take (position_or_len stop bs) bs ≡ upto stop bs

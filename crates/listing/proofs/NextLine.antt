@@ -1,6 +1,7 @@
 -- The first piece of bytes that a stop cuts, and so the first line of a text. Assumes nothing.
 use Rattle.std.proofs.Common.{◌≡◌, ℕ, ◌<◌, Bool, true, false, cond, List, [], ◌∷◌, length, drop, refl, ap, arith}
-use Rattle.listing.specs.Words.{joined, pieces, upto, onward, ends, line_of, rest_of, lines}
+use Rattle.listing.specs.Words.{joined, pieces, upto, ends, lines}
+use Rattle.listing.specs.Cuts.{onward, line_of, rest_of}
 
 module _ (stop : ℕ → Bool) where
   first_piece : (b : ℕ) (t : List ℕ) (s : Bool) → cond s ([] ∷ pieces stop t) (joined b (pieces stop t)) ≡ cond s [] (b ∷ upto stop t) ∷ pieces stop (drop 1 (cond s (b ∷ t) (onward stop t)))

@@ -4,7 +4,8 @@ use Rattle.listing.specs.declared.lexer.Token.{Token}
 use Rattle.listing.specs.declared.lexer.Token.TheVariants.{Word, Number}
 use Rattle.listing.specs.Limits.{all}
 use Rattle.listing.specs.Taking.{Comes}
-use Rattle.listing.specs.Words.{upto, onward, parts, joined, pieces, used, words, past_spaces, next_word, after_word, is_digit, Tells}
+use Rattle.listing.specs.Words.{upto, parts, joined, pieces, used, words, is_digit}
+use Rattle.listing.specs.Cuts.{onward, past_spaces, next_word, after_word, Tells}
 use Rattle.listing.proofs.NextLine.{next_piece}
 
 -- a space is in no word

@@ -8,14 +8,12 @@ use Rattle.listing.specs.declared.code.Instruction.{Instruction}
 use Rattle.listing.specs.declared.code.Instruction.TheVariants as instructions
 use Rattle.listing.specs.declared.code.Operand.{Operand}
 use Rattle.listing.specs.declared.code.Operand.TheVariants as operands
-use Rattle.listing.specs.Written.{WrittenCondition}
-use Rattle.listing.specs.Written.{WrittenInstruction}
-use Rattle.listing.specs.Written.{WrittenOperand}
+use Rattle.listing.specs.Written.{WrittenCondition, WrittenInstruction, WrittenOperand, condition_of, decimal, instruction_of, operand_of}
 use Rattle.listing.specs.declared.refusal.Reason.TheVariants.{NumberOutOfRange}
 use Rattle.listing.specs.declared.refusal.Refusal.{Refusal}
 use Rattle.listing.specs.Lines.{Refused}
 use Rattle.listing.specs.Limits.{between}
-use Rattle.listing.specs.Names.{condition_of, decimal, instruction_of, operand_of, value_of}
+use Rattle.listing.specs.Names.{value_of}
 use Rattle.listing.specs.Taking.{Valued, in_range, lift, number_read, operand_read, instruction_read, condition_read}
 use Rattle.listing.specs.Words.{is_digit}
 use Rattle.listing.specs.Values.{operand_fits, instruction_fits, condition_fits}

@@ -1,4 +1,5 @@
 pub mod Code
+pub mod Cuts
 pub mod Drafts
 pub mod Examples
 pub mod Forms

@@ -30,7 +30,7 @@ use Rattle.listing.specs.declared.refusal.Reason.TheVariants.{
   BufferTooShort,
 }
 use Rattle.listing.specs.declared.refusal.Refusal.{Refusal}
-use Rattle.listing.specs.Words.{next_word, after_word}
+use Rattle.listing.specs.Cuts.{next_word, after_word}
 
 abbrev pub Refused : Reason → ℕ → Refusal → Type 0
 Refused why line e = (e.reason ≡ why) × (e.line ≡ line)

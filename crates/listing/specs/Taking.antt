@@ -34,9 +34,7 @@ use Rattle.listing.specs.declared.lines.Line.{Line as Form}
 use Rattle.listing.specs.declared.lines.Line.TheVariants as forms
 use Rattle.listing.specs.declared.lines.Mnemonic.{Mnemonic}
 use Rattle.listing.specs.declared.lines.Mnemonic.TheVariants as mnemonic
-use Rattle.listing.specs.Written.{WrittenCondition}
-use Rattle.listing.specs.Written.{WrittenInstruction}
-use Rattle.listing.specs.Written.{WrittenOperand}
+use Rattle.listing.specs.Written.{WrittenCondition, WrittenInstruction, WrittenOperand}
 use Rattle.listing.specs.declared.refusal.Reason.TheVariants.{NoForm, NumberOutOfRange, TooMany}
 use Rattle.listing.specs.declared.refusal.Refusal.{Refusal}
 use Rattle.listing.specs.Forms.{Says, no_form, out_of_range, means, apply, first, rest, ended, more, instruction, all_conditions, Line, bound_line, thread_line, instruction_line, fault_form, form}

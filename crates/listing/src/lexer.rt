@@ -5,7 +5,8 @@ ghost use Rattle.listing.specs.Lines.{Refused};
 ghost use Rattle.listing.specs.Reading.{refusal};
 ghost use Rattle.listing.specs.Taking.{Comes, left, size};
 ghost use Rattle.listing.specs.Limits.{all};
-ghost use Rattle.listing.specs.Words.{Tells, after_word, comments, content_of, ends, is_digit, kind, line_of, next_word, parts, past_spaces, permitted, rest_of};
+ghost use Rattle.listing.specs.Words.{comments, content_of, ends, is_digit, parts, permitted};
+ghost use Rattle.listing.specs.Cuts.{Tells, after_word, kind, line_of, next_word, past_spaces, rest_of};
 
 use crate::refusal::{Reason, Refusal};
 

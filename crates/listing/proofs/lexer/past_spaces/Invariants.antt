@@ -1,5 +1,5 @@
 use Rattle.std.proofs.Common.{◌≡◌, ◌≤◌, length}
-use Rattle.listing.specs.Words.{past_spaces}
+use Rattle.listing.specs.Cuts.{past_spaces}
 use Rattle.listing.proofs.lexer.past_spaces.Given as goal
 
 abbrev pub invariant-loop-left : goal.invariant-loop-left

@@ -1,7 +1,8 @@
 use Rattle.std.proofs.Common.{◌<◌, ◌∷◌, length, sym, ap, ◌∙◌, arith}
 use Rattle.std.proofs.lemmas.Bool.{eqb-true, eqb-false}
 use Rattle.std.proofs.lemmas.List.{nil_from_length}
-use Rattle.listing.specs.Words.{words, next_word, after_word}
+use Rattle.listing.specs.Words.{words}
+use Rattle.listing.specs.Cuts.{next_word, after_word}
 use Rattle.listing.proofs.Cuts.{cut_word}
 use Rattle.listing.proofs.NextWord.{no_word, first_word, comes}
 use Rattle.listing.proofs.lexer.Words.next.Goals as goal
