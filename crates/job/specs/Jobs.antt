@@ -3,9 +3,9 @@
 --   declined r        the refusal for that reason, which concerns no line
 --   seen j            the barred places and the kept placement; none of either where no program was read; seen_in: of what a job holds
 --   Read j n          the job holds a program of n places, with no bars and no kept placement; Fresh: the same of what a job holds
---   Holds l c         the program c is held, with no bars and no kept placement
---   ReadsAs s j k r   what reading leaves of the job j and answers, where the text reads as s: the program is held and r is the number of its places,
---                     or r is the refusal and the job is as it was
+--   Holds m l c       the program c is held, with the machine that m makes for it, no bars and no kept placement
+--   ReadsAs m s j k r what reading leaves of the job j and answers, where the text reads as s: the program is held, as Holds m says, and
+--                     r is the number of its places, or r is the refusal and the job is as it was
 --   solved j s        the job with the placement s kept; keeping: what it holds then
 --   reported j out    what a report answers; reported_in: by what the job holds; report_kept: by the program and the kept placement
 --   buffer j out      what it leaves in the buffer; and buffer_in, buffer_kept
@@ -13,6 +13,7 @@ use Rattle.std.specs.Prelude.{◌≡◌, ℕ, List, Some, None, Ok, Err, Option,
 use Rattle.listing.specs.declared.refusal.Refusal.{Refusal}
 use Rattle.listing.specs.declared.refusal.Reason.{Reason}
 use Rattle.listing.specs.declared.refusal.Reason.TheVariants as reason
+use Rattle.listing.specs.declared.program.Program.{Program}
 use Rattle.listing.specs.Code.{Code, code_of, places}
 use Rattle.listing.specs.Limits.{together}
 use Rattle.machines.specs.declared.placement.Placement.{Placement}
@@ -42,13 +43,13 @@ module _ {K : Type 0} where
   abbrev pub Read : Job K → ℕ → Type 0
   Read j n = Fresh j.loaded n
 
-  abbrev pub Holds : Option (Loaded K) → Code → Type 0
-  Holds None c = ⊥
-  Holds (Some l) c = (code_of l.program ≡ c) × ((l.barred ≡ no_places) × (l.kept ≡ None))
+  abbrev pub Holds : (Program → K) → Option (Loaded K) → Code → Type 0
+  Holds made None c = ⊥
+  Holds made (Some l) c = (code_of l.program ≡ c) × (l.machine ≡ made l.program) × (l.barred ≡ no_places) × (l.kept ≡ None)
 
-  abbrev pub ReadsAs : Result Code Refusal → Job K → Job K → Result ℕ Refusal → Type 0
-  ReadsAs (Ok c) j after r = (r ≡ Ok (together c.threads)) × Holds after.loaded c
-  ReadsAs (Err e) j after r = (r ≡ Err e) × (after ≡ j)
+  abbrev pub ReadsAs : (Program → K) → Result Code Refusal → Job K → Job K → Result ℕ Refusal → Type 0
+  ReadsAs made (Ok c) j after r = (r ≡ Ok (together c.threads)) × Holds made after.loaded c
+  ReadsAs made (Err e) j after r = (r ≡ Err e) × (after ≡ j)
 
   abbrev pub keeping : Option (Loaded K) → Placement → Option (Loaded K)
   keeping None s = None

@@ -51,7 +51,7 @@ impl<K: Kind + Copy> Job<K> {
     // Holds the program written in the listing, and answers the number of its places.
     pub fn read(&mut self, text: &[u8]) -> Result<u8, Refusal>
         ensures held { MatchResult result (λ n. Read self.new n) (λ _. self.new ≡ self.old) }
-        ensures reads { ReadsAs (reading text.now) self.old self.new result }
+        ensures reads { ReadsAs K.made (reading text.now) self.old self.new result }
     {
         let program = read(text)?;
         self.loaded = Some(Loaded {
