@@ -2,7 +2,8 @@
 --   Exactly t r        the reading r of t is a program exactly when t has at most 4,096 bytes and spells it
 --   InReach            each program within the limits is what some text of bytes (are_bytes) reads as; and ProgramsInReach, of programs that exist
 --   KnownByLists       programs with the same lists are the same
---   foreign, formless, unranged, crowded    a line breaks the rule on bytes, on forms, on ranges, on counts
+--   foreign, formless, unranged, crowded    a line breaks the rule on bytes, on forms, on ranges, on counts; formless_words, unranged_words,
+--                      crowded_words: by what its words say
 --   FirstBroken why p bs   the line bs, after what p holds, breaks that rule and none that comes earlier in the order
 --   words_say ws       what the words of a line say
 --   SaysOn ls n l      line n of ls says l
@@ -14,7 +15,8 @@
 --   EmptyOn p n        a thread without instructions begins on line n
 --   AstrayOn p n       line n names a place or a thread that is not there, in a jump (JumpAstrayOn) or in a condition (FaultAstrayOn)
 --   First P n          n is the first line at which P holds
---   Wrong t e          the first thing wrong with t, by the reason and the line of e
+--   Wrong t e          the first thing wrong with t, by the reason and the line of e: it is too_long, or has a broken_line, an empty_thread,
+--                      is lacking a thread or a fault line, or something in it is astray
 --   FirstWrong t r     the reading r of t is a refusal exactly when that is the first thing wrong with t
 --   OneOrOther t r     t is read or refused: it spells a program or something is wrong with it, never both, and never two of either
 use Rattle.std.specs.Prelude.{◌≡◌, ℕ, ◌+◌, ◌<◌, ◌≤◌, Bool, true, false, not, ◌&&◌, ◌||◌, ◌⊎◌, List, [], ◌∷◌, ◌++◌, length, AllPairs, Contains, Some, Ok, Err, Result, nat_lt}
