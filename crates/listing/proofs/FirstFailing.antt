@@ -1,10 +1,12 @@
 -- The first line of a part that fails a test is what the search for it finds. Assumes nothing.
 use Rattle.std.proofs.Common.{◌≡◌, ℕ, ◌<◌, ◌≤◌, Bool, true, false, cond, List, [], ◌∷◌, length, Some, None, Ok, refl, ap, ◌∙◌, inl, inr, arith}
+use Rattle.std.proofs.lemmas.Bool.{not_from_false}
 use Rattle.std.specs.List.{AllByRecursion as All}
 use Rattle.listing.specs.declared.code.Instruction.{Instruction}
 use Rattle.listing.specs.Laws.{Somewhere, thread_by_thread, EmptyOn, JumpAstrayOn, FaultAstrayOn}
 use Rattle.listing.specs.Limits.{all, jump_within, condition_there}
 use Rattle.listing.specs.Reading.{Progress, nothing, some, read_lines, first_failing, or_else, jump_failing}
+use Rattle.listing.proofs.Counts.{none_there}
 use Rattle.listing.proofs.Failing.{or_else_none}
 use Rattle.listing.proofs.LinesHeld.{as_long, rising_lines}
 use Rattle.listing.proofs.Pairs.{AsLong}
@@ -13,7 +15,7 @@ use Rattle.listing.proofs.Somewhere.{meets, somewhere_weaker}
 use Rattle.listing.proofs.Sound.{Sound, nothing_sound, read_lines_sound}
 
 -- a part beside line n that fails a test
-abbrev pub Fails : {X : Type 0} → (X → Bool) → ℕ → ℕ → X → Type 0
+abbrev Fails : {X : Type 0} → (X → Bool) → ℕ → ℕ → X → Type 0
 Fails test n m x = (m ≡ n) × (test x ≡ false)
 
 module _ {X : Type 0} (test : X → Bool) where
@@ -26,7 +28,7 @@ module _ {X : Type 0} (test : X → Bool) where
         | false ↦ λ fails k. inl (cc, fails)
       ] refl h
 
-  pub none_failing : (ns : List ℕ) (xs : List X) (k : ℕ) → first_failing test ns xs ≡ None → Somewhere (Fails test k) ns xs → ⊥
+  none_failing : (ns : List ℕ) (xs : List X) (k : ℕ) → first_failing test ns xs ≡ None → Somewhere (Fails test k) ns xs → ⊥
   none_failing [] xs k h s = s
   none_failing (m ∷ ns) [] k h s = s
   none_failing (m ∷ ns) (x ∷ xs) k h s =
@@ -78,7 +80,7 @@ no_jump_astray (ns ∷ nss) (t ∷ ts) k h s =
     let parts = or_else_none (first_failing (jump_within (length t)) ns t) (jump_failing nss ts) h in
     elim s [ inl here ↦ none_failing (jump_within (length t)) ns t k parts.0 here | inr later ↦ no_jump_astray nss ts k parts.1 later ]
 
-pub jump_first : (ns : List ℕ) (nss : List (List ℕ)) (ts : List (List (Instruction ℕ))) (n k : ℕ) → AsLong ns nss → Rising (thread_by_thread ns nss) → jump_failing nss ts ≡ Some n → Somewhere (Leads k) nss ts → n ≤ k
+jump_first : (ns : List ℕ) (nss : List (List ℕ)) (ts : List (List (Instruction ℕ))) (n k : ℕ) → AsLong ns nss → Rising (thread_by_thread ns nss) → jump_failing nss ts ≡ Some n → Somewhere (Leads k) nss ts → n ≤ k
 jump_first ns [] ts n k l r h s = cc
 jump_first [] (is ∷ nss) ts n k l r h s = absurd (omega arith)
 jump_first (m ∷ ns) (is ∷ nss) [] n k l r h s = cc
@@ -105,7 +107,7 @@ module _ (ls : List (List ℕ)) (p : Progress) (read : read_lines nothing 1 ls �
   abbrev by_threads : List ℕ
   by_threads = thread_by_thread p.thread_lines p.instruction_lines
 
-  pub rising_jumps : Rising (thread_by_thread p.thread_lines p.instruction_lines)
+  rising_jumps : Rising (thread_by_thread p.thread_lines p.instruction_lines)
   rising_jumps = rising_front by_threads p.fault_lines (rising_lines ls p read)
 
   pub rising_faults : Rising p.fault_lines
@@ -124,14 +126,10 @@ module _ (ls : List (List ℕ)) (p : Progress) (read : read_lines nothing 1 ls �
   pub jumps_first : (n k : ℕ) → jump_failing p.instruction_lines p.threads ≡ Some n → JumpAstrayOn p k → n ≤ k
   jumps_first n k e jump = jump_first p.thread_lines p.instruction_lines p.threads n k (as_long p sound) rising_jumps e jump
 
--- a thread without instructions fails the test that it has some
-empty_fails : (is : List (Instruction ℕ)) → some is ≡ false → is ≡ []
-empty_fails [] h = refl
-empty_fails (i ∷ is) h = cc
-
+-- a thread without instructions is one that fails the test that it has some
 module _ (p : Progress) (n : ℕ) where
   pub empty_from : Somewhere (Fails some n) p.thread_lines p.threads → EmptyOn p n
-  empty_from = somewhere_weaker (Fails some n) (λ m is. (m ≡ n) × (is ≡ [])) (λ m is f. (f.0, empty_fails is f.1)) p.thread_lines p.threads
+  empty_from = somewhere_weaker (Fails some n) (λ m is. (m ≡ n) × (is ≡ [])) (λ m is f. (f.0, none_there is (not_from_false (some is) f.1))) p.thread_lines p.threads
 
   pub empty_to : EmptyOn p n → Somewhere (Fails some n) p.thread_lines p.threads
   empty_to = somewhere_weaker (λ m is. (m ≡ n) × (is ≡ [])) (Fails some n) (λ m is f. (f.0, ap some f.1)) p.thread_lines p.threads

@@ -1,6 +1,6 @@
 -- A line that breaks a rule is refused for it, so no line that has been read breaks one. Assumes nothing.
 use Rattle.std.proofs.Common.{◌≡◌, ℕ, ◌+◌, Bool, true, false, not, ◌||◌, List, [], ◌∷◌, ◌++◌, length, Ok, Err, sym, refl, ◌∙◌, subst, arith}
-use Rattle.std.proofs.lemmas.Bool.{cond-true, cond-false}
+use Rattle.std.proofs.lemmas.Bool.{cond-true, cond-false, not-true, not-false}
 use Rattle.listing.specs.declared.refusal.Reason.{Reason}
 use Rattle.listing.specs.declared.refusal.Reason.TheVariants.{TextTooLong, ByteNotPermitted, NoForm, NumberOutOfRange, TooMany, Missing, TargetMissing, NoProgram, PlaceMissing, AlreadySo, RunListTooShort, NoPlacement, PlaceNotKept, TooFewRows, NoneEnough, BufferTooShort}
 use Rattle.listing.specs.Forms.{Says, no_form, out_of_range, means, Line, form}
@@ -9,14 +9,6 @@ use Rattle.listing.specs.Limits.{all}
 use Rattle.listing.specs.Reading.{Progress, nothing, refusal, may_stand, room, standing, worded, line, read_lines}
 use Rattle.listing.specs.Words.{permitted, content_of, words}
 use Rattle.listing.proofs.Results.{went_on}
-
-was_false : (b : Bool) → not b ≡ true → b ≡ false
-was_false true h = cc
-was_false false h = refl
-
-was_true : (b : Bool) → not b ≡ false → b ≡ true
-was_true true h = refl
-was_true false h = cc
 
 module _ (p : Progress) (n : ℕ) where
   formless_refused : (ws : List (List ℕ)) → formless p ws ≡ true → worded p n ws ≡ Err (refusal NoForm n)
@@ -47,14 +39,14 @@ module _ (p : Progress) (n : ℕ) where
       by false s h k = cc
       by true no_form h k = cc
       by true out_of_range h k = cc
-      by true (means l) h k = cond-false (room p l) _ _ (was_false (room p l) k)
+      by true (means l) h k = cond-false (room p l) _ _ (not-true (room p l) k)
 
   clean : (bs : List ℕ) → foreign bs ≡ false → line p n bs ≡ worded p n (words (content_of bs))
-  clean bs h = cond-true (all permitted (content_of bs)) _ _ (was_true _ h)
+  clean bs h = cond-true (all permitted (content_of bs)) _ _ (not-false _ h)
 
   pub broken_refused : (why : Reason) (bs : List ℕ) → FirstBroken why p bs → line p n bs ≡ Err (refusal why n)
   broken_refused TextTooLong bs h = absurd h
-  broken_refused ByteNotPermitted bs h = cond-false (all permitted (content_of bs)) _ _ (was_false _ h)
+  broken_refused ByteNotPermitted bs h = cond-false (all permitted (content_of bs)) _ _ (not-true _ h)
   broken_refused NoForm bs h = clean bs h.0 ∙ formless_refused (words (content_of bs)) h.1
   broken_refused NumberOutOfRange bs h = clean bs h.0 ∙ unranged_refused (words (content_of bs)) h.1.0 h.1.1
   broken_refused TooMany bs h = clean bs h.0 ∙ crowded_refused (words (content_of bs)) h.1.0 h.1.1.1

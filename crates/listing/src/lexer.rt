@@ -110,7 +110,7 @@ fn all_digits(bytes: &[u8]) -> bool
 }
 
 // What is left of a line after the spaces at its front. A rule of the project: slice patterns take the bytes of a line apart.
-// The first space after a word is found by `position`, since no slice pattern has a part of unknown length before a byte.
+// The first space after a word is found by `position`: a slice pattern has one part of unknown length, and a cut there wants two.
 fn past_spaces(bytes: &[u8]) -> &[u8]
     ensures left { result.now ≡ past_spaces bytes.now }
     ensures shorter { length result.now ≤ length bytes.now }
