@@ -2,3 +2,4 @@ pub mod Mapped
 pub mod Masks
 pub mod Newest
 pub mod Sameness
+pub mod Sets

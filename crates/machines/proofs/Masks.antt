@@ -1,40 +1,29 @@
 -- Which places a mask can hold. Nothing is assumed.
-use Rattle.std.proofs.Common.{◌≡◌, ℕ, zero, suc, ◌+◌, ◌-◌, ◌*◌, ◌/◌, ◌%◌, ◌^◌, ◌<◌, ◌≤◌, Bool, true, false, cond, eqb, IfSome, Some, None, Option, sym, ⊎_elim, suc-le-suc, zero-le, lt_of_lt_of_le, mul-le-mul_right, zero-add, div-mul-le_self, arith, pow_mono, bit_and, bit_xor, count_ones, ap, ap₂, ◌∙◌, add-zero, eq-eqb, pow_pos, refl}
-use native.Mathlib.Nat.{mod-le, mod-lt, div-add-mod', pow-suc}
-use lib.Bits.{shifted_half, shifted_even, and_mask, xor_block, xor_zero_r, xor_self}
+use Rattle.std.proofs.Common.{◌≡◌, ℕ, zero, suc, ◌+◌, ◌-◌, ◌*◌, ◌/◌, ◌%◌, ◌^◌, ◌<◌, ◌≤◌, Bool, true, false, cond, eqb, IfSome, Some, None, Option, sym, ⊎_elim, arith, bit_and, bit_xor, count_ones, ap, ◌∙◌, add-zero, eq-eqb, refl}
+use native.Mathlib.Nat.{div-add-mod', pow-suc}
+use lib.Bits.{and_mask, and_self, xor_add_and}
 use lib.Count.{count_trailing_zeros, under, ones_step}
 use Rattle.std.proofs.lemmas.Bool.{eqb-true, ne_eqb, cond-true, cond_both, both_ways, cases_lt}
-use Rattle.std.proofs.lemmas.Nat.{shr_below}
-use Rattle.std.proofs.lemmas.Nat.Bits.{bit_at_lowest, bit_at-suc}
+use Rattle.std.proofs.lemmas.Nat.{and_assoc}
+use Rattle.std.proofs.lemmas.Nat.Bits.{bit_at_lowest, bit_at-suc, bit_at-zero, bit_at_above, bit_at_cat_low}
 use Rattle.std.specs.Int.{bit_at}
 use Rattle.machines.specs.Places.{has, removing, from_place, lowest}
 
 pub past_none : (s p : ℕ) → s < 2 ^ 32 → 32 ≤ p → has s p ≡ false
-past_none s p small far =
-    let under : s < 2 ^ (0 + p) = rw zero-add (lt_of_lt_of_le small (pow_mono far)) in
-    let none : s / 2 ^ p < 2 ^ 0 = shr_below s 0 p under in
-    ne_eqb _ _ (λ e. omega (arith, mod-le (s / 2 ^ p) 2))
+past_none s p small far = ne_eqb _ _ (λ e. omega (arith, bit_at_above s 32 p small far))
 
 pub has_low : (s p : ℕ) → s < 2 ^ 32 → has s p ≡ true → p < 32
 has_low s p small h = ⊎_elim (λ lt. lt) (λ far. absurd (both_ways (has s p) (past_none s p small far) h)) (cases_lt p 32)
 
 pub has_within : (s p : ℕ) → has s p ≡ true → 2 ^ p ≤ s
-has_within s p h =
-    let one : s / 2 ^ p % 2 ≡ 1 = eqb-true _ _ h in
-    let some : 1 ≤ s / 2 ^ p = omega (arith, mod-le (s / 2 ^ p) 2) in
-    let part : 1 * 2 ^ p ≤ s / 2 ^ p * 2 ^ p = mul-le-mul_right (2 ^ p) some in
-    omega (arith, div-mul-le_self s (2 ^ p))
+has_within s p h = ⊎_elim (λ small. absurd (omega (arith, bit_at_above s p p small (omega arith), eqb-true _ _ h))) (λ le. le) (cases_lt s (2 ^ p))
 
 -- what is left of a set without the places below n
 pub past_below : (s n : ℕ) → bit_xor s (bit_and s (2 ^ n - 1)) ≡ from_place s n
 past_below s n =
-    let parts : s / 2 ^ n * 2 ^ n + s % 2 ^ n ≡ s = div-add-mod' s (2 ^ n) in
-    let rest : 0 * 2 ^ n + s % 2 ^ n ≡ s % 2 ^ n = omega arith in
-    let small : s % 2 ^ n < 2 ^ n = mod-lt s (pow_pos n) in
-    ap (bit_xor s) (and_mask s n)
-    ∙ (ap₂ bit_xor (sym parts) (sym rest)
-    ∙ (xor_block n (s / 2 ^ n) 0 (s % 2 ^ n) (s % 2 ^ n) small small
-    ∙ (ap₂ (λ x y. x * 2 ^ n + y) (xor_zero_r (s / 2 ^ n)) (xor_self (s % 2 ^ n)) ∙ add-zero _)))
+    let below = bit_and s (2 ^ n - 1) in
+    let inside : bit_and s below ≡ below = sym (and_assoc (2 ^ n - 1) s s) ∙ ap (λ m. bit_and m (2 ^ n - 1)) (and_self s) in
+    omega (arith, xor_add_and s below, inside, and_mask s n, div-add-mod' s (2 ^ n))
 
 -- a set without one of its places has one less
 fewer : (p s : ℕ) → s / 2 ^ p % 2 ≡ 1 → count_ones (s - 2 ^ p) + 1 ≡ count_ones s
@@ -70,22 +59,18 @@ pub has_lowest : (s p : ℕ) → p < 32 → Some p ≡ lowest s → has s p ≡ 
 has_lowest s p low e = here (eqb s 0) e
   where
     here : (b : Bool) → Some p ≡ cond b None (Some (count_trailing_zeros 32 s)) → has s p ≡ true
-    here true e = let z : ◌≡◌ {A = ℕ} 0 1 = cc in absurd (omega arith)
+    here true e = absurd (cc)
     here false e =
         let same : p ≡ count_trailing_zeros 32 s = cc in
         eq-eqb _ _ (ap (bit_at s) same ∙ trailing_set 32 s (omega arith))
 
-pub trailing_from : (k n x : ℕ) → n ≤ k → n ≤ count_trailing_zeros k (x * 2 ^ n)
-unfolding count_trailing_zeros
-trailing_from k zero x h = zero-le
-trailing_from zero (suc n) x h = absurd (omega arith)
-trailing_from (suc k) (suc n) x h = rw (shifted_even x n, shifted_half x n) (suc-le-suc (trailing_from k n x (omega arith)))
-
 -- the lowest place from n on is not below n
-pub lowest_from : (s n : ℕ) (r : Option ℕ) → n ≤ 32 → r ≡ lowest (from_place s n) → IfSome r (λ p. p < 32) → IfSome r (λ p. (n ≤ p) × (p < 32))
-lowest_from s n None h e under = tt
-lowest_from s n (Some p) h e under = (high (eqb (from_place s n) 0) e, under)
+pub lowest_from : (s n : ℕ) (r : Option ℕ) → r ≡ lowest (from_place s n) → IfSome r (λ p. p < 32) → IfSome r (λ p. (n ≤ p) × (p < 32))
+lowest_from s n None e under = tt
+lowest_from s n (Some p) e under = (⊎_elim (λ lt. absurd (omega (arith, below lt, eqb-true _ 1 there))) (λ le. le) (cases_lt p n), under)
   where
-    high : (b : Bool) → Some p ≡ cond b None (Some (count_trailing_zeros 32 (from_place s n))) → n ≤ p
-    high true e = let z : ◌≡◌ {A = ℕ} 0 1 = cc in absurd (omega arith)
-    high false e = let same : p ≡ count_trailing_zeros 32 (from_place s n) = cc in omega (arith, trailing_from 32 n (s / 2 ^ n) h)
+    there : has (from_place s n) p ≡ true
+    there = has_lowest (from_place s n) p under e
+
+    below : p < n → bit_at (from_place s n) p ≡ 0
+    below lt = ap (λ m. bit_at m p) (sym (add-zero _)) ∙ bit_at_cat_low (s / 2 ^ n) n 0 p lt ∙ bit_at-zero p

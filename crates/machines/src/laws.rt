@@ -2,6 +2,7 @@
 ghost use Rattle.std.specs.Prelude.{◌≡◌, ◌==◌, Decides};
 ghost use Rattle.listing.specs.declared.code.Variable.{Variable};
 ghost use Rattle.listing.specs.Code.{index};
+ghost use Rattle.machines.specs.Places.{SetLaws};
 
 use crate::buffered::{Standing, Thread};
 use crate::picture::{Picture, Shown};
@@ -17,4 +18,9 @@ pub fn equality_is_exact()
     ensures pictures { (a : _) (b : _) → Decides (⟦<Picture as PartialEq>⟧.eq a b) (a ≡ b) }
     ensures threads { (a : _) (b : _) → Decides (⟦<Thread as PartialEq>⟧.eq a b) (a ≡ b) }
     ensures standings { (a : _) (b : _) → Decides (⟦<Standing as PartialEq>⟧.eq a b) (a ≡ b) }
+{}
+
+// What the operations on sets of places do, by what is in the set.
+pub fn sets_of_places()
+    ensures { SetLaws }
 {}

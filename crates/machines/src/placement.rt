@@ -1,8 +1,8 @@
 // A set of places, as a mask: bit p is set where the place p is in it.
-ghost use Rattle.std.specs.Prelude.{◌≡◌, ℕ, ◌+◌, ◌-◌, ◌^◌, ◌<◌, ◌≤◌, Bool, not, IfSome, ◌==◌, bit_and, bit_xor, count_ones};
+ghost use Rattle.std.specs.Prelude.{◌≡◌, ℕ, ◌+◌, ◌-◌, ◌^◌, ◌<◌, ◌≤◌, Bool, not, IfSome, ◌==◌, count_ones};
 ghost use Rattle.std.specs.Int.Bits.{bit_or};
 ghost use Rattle.std.specs.Iterator.{at_most};
-ghost use Rattle.machines.specs.Places.{has, adding, removing, first_places, from_place, lowest, TakesLowest};
+ghost use Rattle.machines.specs.Places.{has, adding, removing, first_places, from_place, outside, common, lowest, TakesLowest};
 
 use few::Filler;
 
@@ -69,7 +69,7 @@ impl Placement {
 
     // The places of this set that are not in the other.
     pub fn minus(self, other: Placement) -> Self
-        ensures { result.mask ≡ bit_xor self.mask (bit_and self.mask other.mask) }
+        ensures { result.mask ≡ outside self.mask other.mask }
     {
         Placement {
             mask: self.mask ^ (self.mask & other.mask),
@@ -77,7 +77,7 @@ impl Placement {
     }
 
     pub fn common(self, other: Placement) -> Self
-        ensures { result.mask ≡ bit_and self.mask other.mask }
+        ensures { result.mask ≡ common self.mask other.mask }
     {
         Placement {
             mask: self.mask & other.mask,
