@@ -5,7 +5,8 @@ ghost use Rattle.console.specs.Prints.{WroteReport, PrintedRight};
 use job::job::Job;
 use job::lines::refusal_line;
 use listing::refusal::Refusal;
-use machines::buffered::{Buffered, Standing};
+use machines::buffered::Buffered;
+use machines::standing::Standing;
 
 // Reads, solves and reports. Rows and notes are lent apart, as a job is lent them.
 fn report(

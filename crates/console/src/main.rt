@@ -4,7 +4,7 @@
 mod answer;
 
 use answer::answer;
-use machines::buffered::Standing;
+use machines::standing::Standing;
 use std::io;
 use std::io::{Read, Write};
 use std::process::ExitCode;

@@ -1,7 +1,4 @@
 // A machine that counts how often it is asked for its start, and is else the machine that it holds.
-ghost use Rattle.std.specs.Prelude.{◌≤◌};
-ghost use Rattle.machines.specs.Machines.{Crossing};
-
 use machines::machine::{Machine, Taken};
 use machines::picture::Picture;
 use std::cell::Cell;
@@ -15,6 +12,10 @@ pub struct Counting<'a, M> {
 
 impl<M: Machine> Machine for Counting<'_, M> {
     type Standing = M::Standing;
+
+    ghost program = { λ c. M.program c.machine };
+
+    ghost means = { λ c. M.means c.machine };
 
     fn start(&self) -> M::Standing {
         self.starts.set(self.starts.get().saturating_add(1));
@@ -36,4 +37,6 @@ impl<M: Machine> Machine for Counting<'_, M> {
     fn same(&self, one: &M::Standing, other: &M::Standing) -> bool {
         self.machine.same(one, other)
     }
+
+    ghost lawful = { λ c. M.lawful c.machine };
 }

@@ -1,5 +1,5 @@
+pub mod Everywhere
 pub mod Mapped
 pub mod Masks
 pub mod Newest
-pub mod Sameness
 pub mod Sets

@@ -1,7 +1,9 @@
 pub mod Buffered
 pub mod Instructions
+pub mod Laws
 pub mod Machines
 pub mod Pictures
 pub mod Places
 pub mod Queues
 pub mod Unbuffered
+pub mod lawful

@@ -1,15 +1,25 @@
-// What holds of the values of every machine.
+// What holds of the machines as they are shipped, and of the values they are made of.
 ghost use Rattle.std.specs.Prelude.{◌≡◌, ◌==◌, Decides};
 ghost use Rattle.listing.specs.declared.code.Variable.{Variable};
+ghost use Rattle.listing.specs.declared.program.Program.{Program};
 ghost use Rattle.listing.specs.Code.{index};
-ghost use Rattle.machines.specs.Places.{SetLaws};
+ghost use Rattle.machines.specs.Buffered.{buffered};
+ghost use Rattle.machines.specs.Laws.{NoQueues};
+ghost use Rattle.machines.specs.Machines.{leaving_out};
+ghost use Rattle.machines.specs.Places.{has, SetLaws};
+ghost use Rattle.machines.specs.Unbuffered.{unbuffered};
 
-use crate::buffered::{Standing, Thread};
+use crate::buffered::Buffered;
+use crate::fenced::Fenced;
+use crate::machine::{Kind, Machine};
 use crate::picture::{Picture, Shown};
+use crate::placement::Placement;
 use crate::queue::{Queue, Write};
+use crate::standing::{Standing, Thread};
+use crate::unbuffered::Unbuffered;
 
 // Two of them compare as equal exactly when they are equal, and two variables have one number exactly when they are one.
-#[tactic(auto, using(crate::proofs::Sameness::variable_decides, crate::proofs::Sameness::queue_decides, crate::proofs::Sameness::picture_decides, crate::proofs::Sameness::thread_decides, crate::proofs::Sameness::standing_decides))]
+#[tactic(auto, using(crate::specs::lawful::Sameness::variable_decides, crate::specs::lawful::Sameness::queue_decides, crate::specs::lawful::Sameness::picture_decides, crate::specs::lawful::Sameness::thread_decides, crate::specs::lawful::Sameness::standing_decides))]
 pub fn equality_is_exact()
     ensures variables { (a b : Variable) → Decides (index a == index b) (a ≡ b) }
     ensures writes { (a : _) (b : _) → Decides (⟦<Write as PartialEq>⟧.eq a b) (a ≡ b) }
@@ -18,6 +28,16 @@ pub fn equality_is_exact()
     ensures pictures { (a : _) (b : _) → Decides (⟦<Picture as PartialEq>⟧.eq a b) (a ≡ b) }
     ensures threads { (a : _) (b : _) → Decides (⟦<Thread as PartialEq>⟧.eq a b) (a ≡ b) }
     ensures standings { (a : _) (b : _) → Decides (⟦<Standing as PartialEq>⟧.eq a b) (a ≡ b) }
+{}
+
+// What the machines that are shipped mean, and that a set laid over a machine takes away the steps that cross it and changes nothing else. Of
+// every machine, that fences everywhere are as good as no queues.
+pub fn meanings_are<M: Machine>()
+    ensures unbuffered { (p : Program) → ⟦<Unbuffered as Machine>⟧.means (⟦<Unbuffered as Kind>⟧.made p) ≡ unbuffered p }
+    ensures buffered { (p : Program) → ⟦<Buffered as Machine>⟧.means (⟦<Buffered as Kind>⟧.made p) ≡ buffered p }
+    ensures fenced { (m : M) (set : Placement) → ⟦<Fenced<M> as Machine>⟧.means (record { machine = m; places = set }) ≡ leaving_out (has set.mask) (M.means m) }
+    ensures fenced_program { (m : M) (set : Placement) → ⟦<Fenced<M> as Machine>⟧.program (record { machine = m; places = set }) ≡ M.program m }
+    ensures everywhere { (m : M) → NoQueues (M.program m) (M.means m) }
 {}
 
 // What the operations on sets of places do, by what is in the set.

@@ -10,4 +10,5 @@ pub mod machine;
 pub mod picture;
 pub mod placement;
 pub mod queue;
+pub mod standing;
 pub mod unbuffered;
