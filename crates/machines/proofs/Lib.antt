@@ -1,5 +1,12 @@
+pub mod ByRules
+pub mod Changes
+pub mod Configured
 pub mod Everywhere
+pub mod Following
+pub mod Landing
 pub mod Mapped
 pub mod Masks
 pub mod Newest
+pub mod RuleSteps
 pub mod Sets
+pub mod Waiting

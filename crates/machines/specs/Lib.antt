@@ -1,9 +1,11 @@
 pub mod Buffered
+pub mod Follows
 pub mod Instructions
 pub mod Laws
 pub mod Machines
 pub mod Pictures
 pub mod Places
 pub mod Queues
+pub mod Rules
 pub mod Unbuffered
 pub mod lawful

@@ -4,9 +4,11 @@ ghost use Rattle.listing.specs.declared.code.Variable.{Variable};
 ghost use Rattle.listing.specs.declared.program.Program.{Program};
 ghost use Rattle.listing.specs.Code.{index};
 ghost use Rattle.machines.specs.Buffered.{buffered};
+ghost use Rattle.machines.specs.Follows.{InOrder, OneThread, OnlyByLanding, ReadsOwn, WaitsAlone, WithinBound};
 ghost use Rattle.machines.specs.Laws.{NoQueues};
 ghost use Rattle.machines.specs.Machines.{leaving_out};
 ghost use Rattle.machines.specs.Places.{has, SetLaws};
+ghost use Rattle.machines.specs.Rules.{ByConfiguration, ByRules};
 ghost use Rattle.machines.specs.Unbuffered.{unbuffered};
 
 use crate::buffered::Buffered;
@@ -38,6 +40,18 @@ pub fn meanings_are<M: Machine>()
     ensures fenced { (m : M) (set : Placement) → ⟦<Fenced<M> as Machine>⟧.means (record { machine = m; places = set }) ≡ leaving_out (has set.mask) (M.means m) }
     ensures fenced_program { (m : M) (set : Placement) → ⟦<Fenced<M> as Machine>⟧.program (record { machine = m; places = set }) ≡ M.program m }
     ensures everywhere { (m : M) → NoQueues (M.program m) (M.means m) }
+{}
+
+// The buffered machine goes by the published rules, and what follows from them holds of its runs.
+pub fn rules_are_kept()
+    ensures rules { ByRules }
+    ensures configurations { ByConfiguration }
+    ensures order { InOrder }
+    ensures memory { OnlyByLanding }
+    ensures own { ReadsOwn }
+    ensures alone { WaitsAlone }
+    ensures one { OneThread }
+    ensures bound { WithinBound }
 {}
 
 // What the operations on sets of places do, by what is in the set.
