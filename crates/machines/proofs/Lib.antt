@@ -1,5 +1,6 @@
 pub mod ByRules
 pub mod Changes
+pub mod Checked
 pub mod Configured
 pub mod Everywhere
 pub mod Following
@@ -7,6 +8,8 @@ pub mod Landing
 pub mod Mapped
 pub mod Masks
 pub mod Newest
+pub mod Rounded
+pub mod Rounds
 pub mod RuleSteps
 pub mod Sets
 pub mod Waiting

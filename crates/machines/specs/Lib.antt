@@ -1,4 +1,5 @@
 pub mod Buffered
+pub mod Examples
 pub mod Follows
 pub mod Instructions
 pub mod Laws

@@ -4,6 +4,7 @@ ghost use Rattle.listing.specs.declared.code.Variable.{Variable};
 ghost use Rattle.listing.specs.declared.program.Program.{Program};
 ghost use Rattle.listing.specs.Code.{index};
 ghost use Rattle.machines.specs.Buffered.{buffered};
+ghost use Rattle.machines.specs.Examples.{ExamplesHold};
 ghost use Rattle.machines.specs.Follows.{InOrder, OneThread, OnlyByLanding, ReadsOwn, WaitsAlone, WithinBound};
 ghost use Rattle.machines.specs.Laws.{NoQueues};
 ghost use Rattle.machines.specs.Machines.{leaving_out};
@@ -57,4 +58,9 @@ pub fn rules_are_kept()
 // What the operations on sets of places do, by what is in the set.
 pub fn sets_of_places()
     ensures { SetLaws }
+{}
+
+// Worked examples.
+pub fn examples_hold()
+    ensures { ExamplesHold }
 {}
