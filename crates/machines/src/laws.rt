@@ -33,13 +33,16 @@ pub fn equality_is_exact()
     ensures standings { (a : _) (b : _) → Decides (⟦<Standing as PartialEq>⟧.eq a b) (a ≡ b) }
 {}
 
-// What the machines that are shipped mean, and that a set laid over a machine takes away the steps that cross it and changes nothing else. Of
-// every machine, that fences everywhere are as good as no queues.
-pub fn meanings_are<M: Machine>()
+// What the machines that are shipped mean.
+pub fn meanings_are()
     ensures unbuffered { (p : Program) → ⟦<Unbuffered as Machine>⟧.means (⟦<Unbuffered as Kind>⟧.made p) ≡ unbuffered p }
     ensures buffered { (p : Program) → ⟦<Buffered as Machine>⟧.means (⟦<Buffered as Kind>⟧.made p) ≡ buffered p }
+{}
+
+// A set laid over a machine takes away the steps that cross it, and changes nothing else; and fences everywhere are as good as no queues.
+pub fn fences_mean<M: Machine>()
     ensures fenced { (m : M) (set : Placement) → ⟦<Fenced<M> as Machine>⟧.means (record { machine = m; places = set }) ≡ leaving_out (has set.mask) (M.means m) }
-    ensures fenced_program { (m : M) (set : Placement) → ⟦<Fenced<M> as Machine>⟧.program (record { machine = m; places = set }) ≡ M.program m }
+    ensures program { (m : M) (set : Placement) → ⟦<Fenced<M> as Machine>⟧.program (record { machine = m; places = set }) ≡ M.program m }
     ensures everywhere { (m : M) → NoQueues (M.program m) (M.means m) }
 {}
 
