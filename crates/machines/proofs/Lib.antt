@@ -9,7 +9,6 @@ pub mod Mapped
 pub mod Masks
 pub mod Newest
 pub mod Rounded
-pub mod Rounds
 pub mod RuleSteps
 pub mod Sets
 pub mod Waiting

@@ -7,6 +7,7 @@ pub mod Machines
 pub mod Pictures
 pub mod Places
 pub mod Queues
+pub mod Rounds
 pub mod Rules
 pub mod Unbuffered
 pub mod lawful
