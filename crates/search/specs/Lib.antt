@@ -1,2 +1,7 @@
+pub mod Answers
 pub mod Crossed
-pub mod Tables
+pub mod Enough
+pub mod Explored
+pub mod Faults
+pub mod Laws
+pub mod Least
