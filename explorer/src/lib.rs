@@ -3,9 +3,11 @@
 
 pub mod answer;
 pub mod generate;
+pub mod growing;
 pub mod hard;
 pub mod listing;
 pub mod litmus;
 pub mod machine;
 pub mod process;
 pub mod random;
+pub mod scan;

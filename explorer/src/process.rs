@@ -62,6 +62,32 @@ pub fn run(program: &Path, arguments: &[&str], input: &[u8], feed: Feed) -> io::
     })
 }
 
+/// Lines of a name and a number, as a program prints them that measures.
+pub struct Report {
+    lines: String,
+}
+
+impl Report {
+    pub fn number(&self, name: &str) -> io::Result<u64> {
+        let value = |line: &str| line.strip_prefix(name)?.strip_prefix(' ')?.parse().ok();
+        let no_number = || io::Error::new(io::ErrorKind::InvalidData, format!("no {name} in {:?}", self.lines));
+        self.lines.lines().find_map(value).ok_or_else(no_number)
+    }
+}
+
+/// What a program reports of an input; it may take as long as it wants.
+pub fn report(program: &Path, arguments: &[&str], input: &[u8]) -> io::Result<Report> {
+    let mut child = Command::new(program)
+        .args(arguments)
+        .stdin(Stdio::piped())
+        .stdout(Stdio::piped())
+        .spawn()
+        .map_err(|error| io::Error::new(error.kind(), format!("{}: {error}", program.display())))?;
+    child.stdin.take().expect("standard input is piped").write_all(input)?;
+    let output = child.wait_with_output()?;
+    Ok(Report { lines: String::from_utf8_lossy(&output.stdout).into_owned() })
+}
+
 fn write_input(stdin: &mut impl Write, input: &[u8], feed: Feed) -> io::Result<()> {
     match feed {
         Feed::Whole | Feed::HeldOpen => stdin.write_all(input),

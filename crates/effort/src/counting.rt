@@ -1,13 +1,15 @@
-// A machine that counts how often it is asked for its start, and is else the machine that it holds.
+// A machine that counts how often it is asked for its start, and for whether two standings are the same, and is else the machine
+// that it holds.
 use machines::machine::{Machine, Taken};
 use machines::picture::Picture;
 use std::cell::Cell;
 
-// Each call is handed on by hand: a trait has no plainer way to be another value in all its calls but one.
+// Each call is handed on by hand: a trait has no plainer way to be another value in all its calls but two.
 #[derive(Clone, Copy)]
 pub struct Counting<'a, M> {
     pub machine: M,
     pub starts: &'a Cell<u32>,
+    pub compared: &'a Cell<u64>,
 }
 
 impl<M: Machine> Machine for Counting<'_, M> {
@@ -35,6 +37,7 @@ impl<M: Machine> Machine for Counting<'_, M> {
     }
 
     fn same(&self, one: &M::Standing, other: &M::Standing) -> bool {
+        self.compared.set(self.compared.get().saturating_add(1));
         self.machine.same(one, other)
     }
 

@@ -1,65 +1,30 @@
-//! Measures the console and the explorer side by side, each as a process of its own on the same standard input, and
-//! prints a table. The first argument is the console's path, if it is not the one that the repository builds; the
-//! program `effort`, which tells how often the console's search explores a listing, stands beside a console that is given.
+//! The console and the explorer side by side, each as a process of its own on the same standard input.
 
-use std::env;
 use std::fs;
 use std::io::{self, Write};
 use std::path::Path;
-use std::process::{Command, ExitCode, Stdio};
+use std::process::{Command, Stdio};
 use std::time::{Duration, Instant};
 
-use explorer::answer::{answer, answer_standard_input, Answer, CONSOLE_ROWS};
+use explorer::answer::{answer, Answer, CONSOLE_ROWS};
 use explorer::generate::{built, telling};
 use explorer::hard::hard;
 use explorer::listing;
 use explorer::litmus::LITMUS;
 use explorer::machine::buffered_graph;
-use explorer::process::{self, Feed};
+use explorer::process;
 use explorer::random::Random;
+
+use crate::shown::{median, milliseconds};
+use crate::AS_EXPLORER;
 
 /// All random listings follow from this fixed start value.
 const START: u64 = 20_260_418;
 const RUNS: usize = 9;
 const CONSOLE_LIMIT: Duration = Duration::from_secs(1);
 
-/// The console's search keeps the last 64 sets of places that fault runs crossed. Up to two explorations more than that,
-/// it has forgotten none, so that each exploration but three handed over a set that it had not met before.
+/// A guard against a search that goes wrong: far more than any of the listings takes.
 const EXPLORATION_LIMIT: u32 = 66;
-
-/// With this argument the program is the explorer: `cargo run` builds the program that it runs and no other.
-const AS_EXPLORER: &str = "explorer";
-
-fn main() -> ExitCode {
-    if env::args().nth(1).as_deref() == Some(AS_EXPLORER) {
-        return explore();
-    }
-    if cfg!(debug_assertions) {
-        eprintln!("build with --release to measure");
-        return ExitCode::from(2);
-    }
-    match bench() {
-        Ok(true) => ExitCode::SUCCESS,
-        Ok(false) => ExitCode::FAILURE,
-        Err(error) => {
-            eprintln!("{error}");
-            ExitCode::from(2)
-        }
-    }
-}
-
-fn explore() -> ExitCode {
-    match answer_standard_input(CONSOLE_ROWS) {
-        Ok(answer) => {
-            print!("{answer}");
-            ExitCode::from(answer.exit_status())
-        }
-        Err(error) => {
-            eprintln!("standard input cannot be read: {error}");
-            ExitCode::from(2)
-        }
-    }
-}
 
 struct Subject {
     name: String,
@@ -73,20 +38,18 @@ impl Subject {
 }
 
 /// False if the console took too long for a listing that fits its rows, or explored it too often.
-fn bench() -> io::Result<bool> {
-    let console = process::console(env::args().nth(1))?;
-    let effort = process::effort(&console)?;
-    let explorer = env::current_exe()?;
+pub fn bench(console: &Path, effort: &Path, explorer: &Path) -> io::Result<bool> {
     println!(
         "| listing | standings | answer | explorations | console ms | explorer ms |\n|---|---:|---|---:|---:|---:|"
     );
     let mut slowest = (Duration::ZERO, String::new());
+    let mut slower = Vec::new();
     let mut most = 0;
     for subject in subjects()? {
         let standings = standings(&subject.text);
-        let (consoles, explorers) = measure(&console, &explorer, &subject.text)?;
+        let (consoles, explorers) = measure(console, explorer, &subject.text)?;
         let (shown, answer) = (shown(standings), kind(&answer(&subject.text, CONSOLE_ROWS)));
-        let explorations = explorations(&effort, &subject.text)?;
+        let explorations = explorations(effort, &subject.text)?;
         most = most.max(explorations);
         println!(
             "| {} | {shown} | {answer} | {explorations} | {} | {} |",
@@ -94,23 +57,23 @@ fn bench() -> io::Result<bool> {
             milliseconds(consoles),
             milliseconds(explorers)
         );
+        if consoles > explorers {
+            slower.push(subject.name.clone());
+        }
         if standings.is_some() && consoles > slowest.0 {
             slowest = (consoles, subject.name);
         }
     }
-    println!("\nOf the listings that fit, the console is slowest on {}: {} ms.", slowest.1, milliseconds(slowest.0));
+    let slower = if slower.is_empty() { "none of them".to_string() } else { slower.join(", ") };
+    println!("\nThe console is slower than the explorer on {slower}.");
+    println!("Of the listings that fit, the console is slowest on {}: {} ms.", slowest.1, milliseconds(slowest.0));
     println!("No listing is explored more than {most} times.");
     Ok(slowest.0 <= CONSOLE_LIMIT && most <= EXPLORATION_LIMIT)
 }
 
-/// How often the console's search explores the listing, as `effort` prints it.
+/// How often the console's search explores the listing, as `effort` counts it.
 fn explorations(effort: &Path, text: &[u8]) -> io::Result<u32> {
-    let outcome = process::run(effort, &[], text, Feed::Whole)?;
-    let line = String::from_utf8_lossy(&outcome.output);
-    line.trim_end()
-        .strip_prefix("explorations ")
-        .and_then(|count| count.parse().ok())
-        .ok_or_else(|| io::Error::new(io::ErrorKind::InvalidData, format!("{} printed {line:?}", effort.display())))
+    Ok(process::report(effort, &[], text)?.number("explorations")? as u32)
 }
 
 /// The medians of the console's and the explorer's times, which run by turns.
@@ -130,15 +93,6 @@ fn time(program: &Path, arguments: &[&str], text: &[u8]) -> io::Result<Duration>
     child.stdin.take().expect("standard input is piped").write_all(text)?;
     child.wait_with_output()?;
     Ok(start.elapsed())
-}
-
-fn median(mut times: Vec<Duration>) -> Duration {
-    times.sort();
-    times[times.len() / 2]
-}
-
-fn milliseconds(time: Duration) -> String {
-    format!("{:.2}", 1000.0 * time.as_secs_f64())
 }
 
 /// None if they do not fit the console's rows.
