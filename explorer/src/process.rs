@@ -4,7 +4,7 @@ use std::env;
 use std::fs;
 use std::io::{self, Read, Write};
 use std::path::{Path, PathBuf};
-use std::process::{Command, ExitStatus, Stdio};
+use std::process::{Child, Command, ExitStatus, Stdio};
 use std::sync::mpsc;
 use std::thread;
 use std::time::Duration;
@@ -27,13 +27,18 @@ pub struct Outcome {
     pub status: ExitStatus,
 }
 
-pub fn run(program: &Path, arguments: &[&str], input: &[u8], feed: Feed) -> io::Result<Outcome> {
-    let mut child = Command::new(program)
+/// The program, with its standard input and output piped.
+pub fn started(program: &Path, arguments: &[&str]) -> io::Result<Child> {
+    Command::new(program)
         .args(arguments)
         .stdin(Stdio::piped())
         .stdout(Stdio::piped())
         .spawn()
-        .map_err(|error| io::Error::new(error.kind(), format!("{}: {error}", program.display())))?;
+        .map_err(|error| io::Error::new(error.kind(), format!("{}: {error}", program.display())))
+}
+
+pub fn run(program: &Path, arguments: &[&str], input: &[u8], feed: Feed) -> io::Result<Outcome> {
+    let mut child = started(program, arguments)?;
     let mut stdin = child.stdin.take().expect("standard input is piped");
     let mut stdout = child.stdout.take().expect("standard output is piped");
     thread::scope(|scope| {
@@ -77,12 +82,7 @@ impl Report {
 
 /// What a program reports of an input; it may take as long as it wants.
 pub fn report(program: &Path, arguments: &[&str], input: &[u8]) -> io::Result<Report> {
-    let mut child = Command::new(program)
-        .args(arguments)
-        .stdin(Stdio::piped())
-        .stdout(Stdio::piped())
-        .spawn()
-        .map_err(|error| io::Error::new(error.kind(), format!("{}: {error}", program.display())))?;
+    let mut child = started(program, arguments)?;
     child.stdin.take().expect("standard input is piped").write_all(input)?;
     let output = child.wait_with_output()?;
     Ok(Report { lines: String::from_utf8_lossy(&output.stdout).into_owned() })

@@ -3,7 +3,6 @@
 use std::fs;
 use std::io::{self, Write};
 use std::path::Path;
-use std::process::{Command, Stdio};
 use std::time::{Duration, Instant};
 
 use explorer::answer::{answer, Answer, CONSOLE_ROWS};
@@ -89,7 +88,7 @@ fn measure(console: &Path, explorer: &Path, text: &[u8]) -> io::Result<(Duration
 /// From the start of the process to its end. A listing fits a pipe, so it can be written before any output is read.
 fn time(program: &Path, arguments: &[&str], text: &[u8]) -> io::Result<Duration> {
     let start = Instant::now();
-    let mut child = Command::new(program).args(arguments).stdin(Stdio::piped()).stdout(Stdio::piped()).spawn()?;
+    let mut child = process::started(program, arguments)?;
     child.stdin.take().expect("standard input is piped").write_all(text)?;
     child.wait_with_output()?;
     Ok(start.elapsed())
