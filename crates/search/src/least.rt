@@ -3,7 +3,7 @@ ghost use Rattle.std.specs.Prelude.{◌≡◌, ◌-◌, ◌^◌, ◌<◌, ◌≤
 ghost use Rattle.machines.specs.declared.placement.Placement.{Placement};
 ghost use Rattle.machines.specs.Places.{from_place, places_in};
 ghost use Rattle.search.specs.Answers.{least_placed};
-ghost use Rattle.search.specs.Crossed.{AllNoted, Noted};
+ghost use Rattle.search.specs.Crossed.{AllNoted, Apart, Noted};
 ghost use Rattle.search.specs.Enough.{enough, fits, rows_lent};
 ghost use Rattle.search.specs.Explored.{room};
 ghost use Rattle.search.specs.Least.{choices, least, Within};
@@ -44,7 +44,7 @@ impl<M: Machine + Copy> Search<'_, '_, '_, M> {
     // The places that a fault run crosses which keeps to the set, if there is one. That the rows suffice is known by then.
     fn crossed_past(&mut self, places: Placement) -> Option<Placement>
         requires { fits (M.means self.old.unfenced.machine.now) (room self.old.table) ≡ true }
-        ensures found { MatchOption result (enough self.old.unfenced.program.now (M.means self.old.unfenced.machine.now) (room self.old.table) places.mask ≡ true) (λ crossed. (enough self.old.unfenced.program.now (M.means self.old.unfenced.machine.now) (room self.old.table) places.mask ≡ false) × Noted self.old.unfenced.program.now (M.means self.old.unfenced.machine.now) crossed.mask) }
+        ensures found { MatchOption result (enough self.old.unfenced.program.now (M.means self.old.unfenced.machine.now) (room self.old.table) places.mask ≡ true) (λ crossed. (enough self.old.unfenced.program.now (M.means self.old.unfenced.machine.now) (room self.old.table) places.mask ≡ false) × Noted self.old.unfenced.program.now (M.means self.old.unfenced.machine.now) crossed.mask × Apart crossed.mask places.mask) }
         ensures asked { (self.new.unfenced ≡ self.old.unfenced) × (self.new.unbarred ≡ self.old.unbarred) × (room self.new.table ≡ room self.old.table) × (self.new.known ≡ self.old.known) }
     {
         let machine = Fenced {
@@ -68,6 +68,7 @@ impl<M: Machine + Copy> Search<'_, '_, '_, M> {
         requires fits { fits (M.means self.old.unfenced.machine.now) (room self.old.table) ≡ true }
         requires noted { Noted self.old.unfenced.program.now (M.means self.old.unfenced.machine.now) crossed.mask }
         ensures noted { Noted self.old.unfenced.program.now (M.means self.old.unfenced.machine.now) result.mask }
+        ensures within { Within result.mask crossed.mask }
         ensures asked { (self.new.unfenced ≡ self.old.unfenced) × (self.new.unbarred ≡ self.old.unbarred) × (room self.new.table ≡ room self.old.table) × (self.new.known ≡ self.old.known) }
     {
         let mut kept = crossed;
@@ -84,13 +85,13 @@ impl<M: Machine + Copy> Search<'_, '_, '_, M> {
         kept
     }
 
-    // Whether no fault run keeps to the set; where one does, what some fault run crosses is noted.
+    // Whether no fault run keeps to the set; where one does, what some fault run crosses is noted, and the set has none of it.
     fn is_enough(&mut self, places: Placement) -> bool
         requires fits { fits (M.means self.old.unfenced.machine.now) (room self.old.table) ≡ true }
         requires known { AllNoted self.old.unfenced.program.now (M.means self.old.unfenced.machine.now) self.old.known.sets }
         ensures answer { result ≡ enough self.old.unfenced.program.now (M.means self.old.unfenced.machine.now) (room self.old.table) places.mask }
         ensures known { AllNoted self.old.unfenced.program.now (M.means self.old.unfenced.machine.now) self.new.known.sets }
-        ensures noted { result ≡ false → (crossed : Placement) × (self.new.known.sets ≡ drop (length self.old.known.sets - 63) self.old.known.sets ++ crossed ∷ []) }
+        ensures noted { result ≡ false → (crossed : Placement) × (self.new.known.sets ≡ drop (length self.old.known.sets - 63) self.old.known.sets ++ crossed ∷ []) × Apart crossed.mask places.mask }
         ensures asked { (self.new.unfenced ≡ self.old.unfenced) × (self.new.unbarred ≡ self.old.unbarred) × (room self.new.table ≡ room self.old.table) }
     {
         let Some(crossed) = self.crossed_past(places) else {
