@@ -13,7 +13,7 @@ use machines::buffered::Buffered;
 use machines::machine::{Kind, Machine};
 use machines::placement::Placement;
 use machines::standing::Standing;
-use once::{UNUSED, print_compared, print_times};
+use once::{UNUSED, compared, measured};
 use search::least::least;
 use std::cell::Cell;
 use std::io::Read;
@@ -60,8 +60,16 @@ fn main(rt: HostRuntime) -> io::Result<()> {
         return println!(rt; "explorations 0");
     };
     match asked.as_deref() {
-        Some("time") => print_times(&rt, &program, &mut rows, &mut notes),
-        Some(_) => print_compared(&rt, &program, &mut rows, &mut notes),
+        Some("time") => {
+            let times = measured(&rt, &program, &mut rows, &mut notes)?;
+            println!(rt; "standings {}", times.standings)?;
+            println!(rt; "exploration {}", times.exploration.as_nanos())?;
+            println!(rt; "steps {}", times.steps.as_nanos())
+        }
+        Some(_) => {
+            let compared = compared(&program, &mut rows, &mut notes);
+            println!(rt; "compared {compared}")
+        }
         None => {
             let count = explorations(&program, &mut rows, &mut notes);
             println!(rt; "explorations {count}")

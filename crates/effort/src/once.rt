@@ -1,4 +1,6 @@
 // One exploration of a program in many rows, with no fence: how long it takes, and how many standings it compares.
+ghost use Rattle.std.specs.Prelude.{◌≡◌, not, ◌==◌, length, take_while, IfOk};
+
 use crate::counting::Counting;
 use listing::program::Program;
 use machines::buffered::Buffered;
@@ -14,7 +16,9 @@ use std::time::{Duration, Instant};
 pub const UNUSED: u32 = 0xffff_ffff;
 
 // How many rows were used.
-fn used(notes: &[u32]) -> usize {
+fn used(notes: &[u32]) -> usize
+    ensures { result ≡ length (take_while (λ note. not (note == 4294967295)) notes.now) }
+{
     notes.iter().take_while(|note| **note != UNUSED).count()
 }
 
@@ -27,14 +31,24 @@ fn walk(machine: &Buffered, rows: &[Standing], used: usize) {
     }
 }
 
-// Prints how many standings an exploration meets, how long it takes, and how long its steps take alone: what is left of its
-// time is that of its look-ups, but for the writing of rows.
-pub fn print_times(
+// How many standings one exploration meets, how long it takes, and how long its steps take alone: what is left of its time is
+// that of its look-ups, but for the writing of rows.
+#[derive(Clone, Copy)]
+pub struct Times {
+    pub standings: usize,
+    pub exploration: Duration,
+    pub steps: Duration,
+}
+
+// What stands in the rows afterwards is free; the times are what the clock says, and it is refused where that fails.
+pub fn measured(
     rt: &HostRuntime,
     program: &Program,
     rows: &mut [Standing],
     notes: &mut [u32],
-) -> io::Result<()> {
+) -> io::Result<Times>
+    ensures { IfOk result (λ t. t.standings ≡ length (take_while (λ note. not (note == 4294967295)) notes.new)) }
+{
     let machine = Buffered::of(*program);
     let begun = Instant::now(rt)?;
     let _ = explore(&machine, program, rows, notes);
@@ -43,18 +57,15 @@ pub fn print_times(
     let begun = Instant::now(rt)?;
     walk(&machine, rows, standings);
     let steps = begun.elapsed(rt)?;
-    println!(rt; "standings {standings}")?;
-    println!(rt; "exploration {}", exploration.as_nanos())?;
-    println!(rt; "steps {}", steps.as_nanos())
+    Ok(Times {
+        standings,
+        exploration,
+        steps,
+    })
 }
 
-// Prints how many standings an exploration compares in its look-ups.
-pub fn print_compared(
-    rt: &HostRuntime,
-    program: &Program,
-    rows: &mut [Standing],
-    notes: &mut [u32],
-) -> io::Result<()> {
+// How many standings an exploration compares in its look-ups, as a machine counts them that is asked.
+pub fn compared(program: &Program, rows: &mut [Standing], notes: &mut [u32]) -> u64 {
     let (starts, compared) = (Cell::new(0), Cell::new(0));
     let machine = Counting {
         machine: Buffered::of(*program),
@@ -62,5 +73,5 @@ pub fn print_compared(
         compared: &compared,
     };
     let _ = explore(&machine, program, rows, notes);
-    println!(rt; "compared {}", compared.get())
+    compared.get()
 }
