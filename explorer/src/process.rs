@@ -4,7 +4,7 @@ use std::env;
 use std::fs;
 use std::io::{self, Read, Write};
 use std::path::{Path, PathBuf};
-use std::process::{Child, Command, ExitStatus, Stdio};
+use std::process::{Child, Command, ExitCode, ExitStatus, Stdio};
 use std::sync::mpsc;
 use std::thread;
 use std::time::Duration;
@@ -25,6 +25,18 @@ pub enum Feed {
 pub struct Outcome {
     pub output: Vec<u8>,
     pub status: ExitStatus,
+}
+
+/// What a program that checks something ends with: 0 if all is well, 1 if not, and 2 if it could not be told.
+pub fn exit_code(is_well: io::Result<bool>) -> ExitCode {
+    match is_well {
+        Ok(true) => ExitCode::SUCCESS,
+        Ok(false) => ExitCode::FAILURE,
+        Err(error) => {
+            eprintln!("{error}");
+            ExitCode::from(2)
+        }
+    }
 }
 
 /// The program, with its standard input and output piped.

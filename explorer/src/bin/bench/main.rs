@@ -29,14 +29,7 @@ fn main() -> ExitCode {
         eprintln!("build with --release to measure");
         return ExitCode::from(2);
     }
-    match bench() {
-        Ok(true) => ExitCode::SUCCESS,
-        Ok(false) => ExitCode::FAILURE,
-        Err(error) => {
-            eprintln!("{error}");
-            ExitCode::from(2)
-        }
-    }
+    process::exit_code(bench())
 }
 
 /// False if something takes longer, or is explored more often, than it may.

@@ -24,14 +24,7 @@ const START: u64 = 20_260_417;
 const RANDOM_LISTINGS: usize = 240;
 
 fn main() -> ExitCode {
-    match compare() {
-        Ok(0) => ExitCode::SUCCESS,
-        Ok(_) => ExitCode::FAILURE,
-        Err(error) => {
-            eprintln!("{error}");
-            ExitCode::from(2)
-        }
-    }
+    process::exit_code(compare().map(|failed| failed == 0))
 }
 
 /// The number of failed checks.
