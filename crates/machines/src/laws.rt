@@ -41,8 +41,8 @@ pub fn meanings_are()
 
 // A set laid over a machine takes away the steps that cross it, and changes nothing else; and fences everywhere are as good as no queues.
 pub fn fences_mean<M: Machine>()
-    ensures fenced { (m : M) (set : Placement) → ⟦<Fenced<M> as Machine>⟧.means (record { machine = m; places = set }) ≡ leaving_out (has set.mask) (M.means m) }
-    ensures program { (m : M) (set : Placement) → ⟦<Fenced<M> as Machine>⟧.program (record { machine = m; places = set }) ≡ M.program m }
+    ensures fenced { (f : _) → ⟦<Fenced<'static, M> as Machine>⟧.means f ≡ leaving_out (has f.places.mask) (M.means f.machine.now) }
+    ensures program { (f : _) → ⟦<Fenced<'static, M> as Machine>⟧.program f ≡ M.program f.machine.now }
     ensures everywhere { (m : M) → NoQueues (M.program m) (M.means m) }
 {}
 

@@ -40,7 +40,7 @@ fn higher_half(places: Placement) -> Placement
     left
 }
 
-impl<M: Machine + Copy> Search<'_, '_, '_, M> {
+impl<M: Machine> Search<'_, '_, '_, M> {
     // The places that a fault run crosses which keeps to the set, if there is one. That the rows suffice is known by then.
     fn crossed_past(&mut self, places: Placement) -> Option<Placement>
         requires { fits (M.means self.old.unfenced.machine.now) (room self.old.table) ≡ true }
@@ -48,7 +48,7 @@ impl<M: Machine + Copy> Search<'_, '_, '_, M> {
         ensures asked { (self.new.unfenced ≡ self.old.unfenced) × (self.new.unbarred ≡ self.old.unbarred) × (room self.new.table ≡ room self.old.table) × (self.new.known ≡ self.old.known) }
     {
         let machine = Fenced {
-            machine: *self.unfenced.machine,
+            machine: self.unfenced.machine,
             places,
         };
         let fenced = Judged {
@@ -157,7 +157,7 @@ impl<M: Machine + Copy> Search<'_, '_, '_, M> {
 // The fewest open places that keep every fault out; of equal counts, the set that holds the lowest place in which the
 // two differ. What is left in rows and notes is free. They are no struct: where one's slices are lent on to the table, the check
 // makes no proof.
-pub fn least<M: Machine + Copy>(
+pub fn least<M: Machine>(
     machine: &M,
     program: &Program,
     unbarred: Placement,
