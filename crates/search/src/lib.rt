@@ -5,7 +5,7 @@ mod crossings;
 pub mod explore;
 pub mod laws;
 pub mod least;
-mod rows;
+pub mod rows;
 mod run;
 mod table;
 pub mod test;
