@@ -4,6 +4,7 @@
 mod answer;
 
 use answer::answer;
+use job::call::Memory;
 use machines::standing::Standing;
 use std::io;
 use std::io::{Read, Write};
@@ -20,7 +21,14 @@ fn print_answer(rt: &HostRuntime) -> io::Result<ExitCode> {
     let mut rows = vec![in rt.alloc(); Standing::start(); 512]?;
     let mut notes = vec![in rt.alloc(); 0u32; 512]?;
     let mut out = [0u8; 512];
-    let (length, status) = match answer(&text, &mut rows, &mut notes, &mut out) {
+    let mut memory = Memory {
+        rows: &mut rows,
+        pictures: &mut [],
+        notes: &mut notes,
+        run: &mut [],
+        out: &mut out,
+    };
+    let (length, status) = match answer(&text, &mut memory) {
         Ok(length) => (length, ExitCode::SUCCESS),
         Err(length) => (length, ExitCode::FAILURE),
     };

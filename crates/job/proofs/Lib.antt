@@ -1,3 +1,17 @@
 pub mod Appended
+pub mod Arising
 pub mod Befores
+pub mod Calling
+pub mod Deciding
 pub mod Decimal
+pub mod Keeping
+pub mod Lawful
+pub mod Listed
+pub mod Lowest
+pub mod Needed
+pub mod Ordering
+pub mod Plainly
+pub mod Promising
+pub mod Readings
+pub mod Showing
+pub mod Solving

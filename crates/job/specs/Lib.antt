@@ -1,2 +1,11 @@
-pub mod Jobs
+pub mod Answers
+pub mod Checks
+pub mod Histories
+pub mod Lent
+pub mod Loads
+pub mod Promises
+pub mod Refusals
+pub mod States
 pub mod Text
+pub mod Texts
+pub mod Calls

@@ -4,17 +4,18 @@
 --   decimal n         n in decimal, below 100,000, with no leading zeros
 --   before p n        the line that names the place n of the program p: its thread, and its number within it
 --   befores p k s     these lines for the places of the set s, lowest first, k of them at most
---   report p s        the report of a kept placement
+--   report p k        the report of a kept placement: the fence count that was kept with it, then its places
 --   refusal n line    the line that names a refusal
 --   told text out     what a call answers that writes a text: its length, or a refusal of a buffer below 512 bytes
 --   left text out     what it leaves in the buffer
-use Rattle.std.specs.Prelude.{ℕ, zero, suc, ◌+◌, ◌-◌, ◌/◌, ◌%◌, cond, List, [], ◌∷◌, ◌++◌, length, take, drop, Ok, Err, codes, Result, ◌==◌, count_ones, nat_le, nat_lt}
+use Rattle.std.specs.Prelude.{ℕ, zero, suc, ◌+◌, ◌-◌, ◌/◌, ◌%◌, cond, List, [], ◌∷◌, ◌++◌, length, take, drop, Ok, Err, codes, Result, ◌==◌, nat_le, nat_lt}
 use Rattle.std.specs.Int.Count.{count_trailing_zeros}
 use Rattle.listing.specs.declared.refusal.Refusal.{Refusal}
 use Rattle.listing.specs.declared.refusal.Reason.TheVariants as reason
 use Rattle.listing.specs.declared.program.Program.{Program}
 use Rattle.listing.specs.Code.{place_of, thread_at}
 use Rattle.machines.specs.Places.{removing}
+use Rattle.job.specs.declared.solution.Solution.{Solution}
 
 abbrev pub placed : List ℕ → ℕ → List ℕ → List ℕ
 placed out at bs = take at out ++ (bs ++ drop (at + length bs) out)
@@ -34,8 +35,8 @@ unfoldable pub befores : Program → ℕ → ℕ → List ℕ
 befores p zero s = []
 befores p (suc k) s = cond (s == 0) [] (before p (count_trailing_zeros 32 s) ++ befores p k (removing s (count_trailing_zeros 32 s)))
 
-unfoldable pub report : Program → ℕ → List ℕ
-report p s = codes "fences " ++ (decimal (count_ones s) ++ (codes "\n" ++ befores p 32 s))
+unfoldable pub report : Program → Solution → List ℕ
+report p k = codes "fences " ++ (decimal k.fences ++ (codes "\n" ++ befores p 32 k.places.mask))
 
 unfoldable pub refusal : ℕ → ℕ → List ℕ
 refusal n line = codes "refused " ++ (decimal n ++ (codes " line " ++ (decimal line ++ codes "\n")))

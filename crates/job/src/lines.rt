@@ -6,12 +6,12 @@ ghost use Rattle.arrayvec.specs.ArrayString.{array_string_len};
 ghost use Rattle.listing.specs.Reasons.{number_of};
 ghost use Rattle.job.specs.Text.{placed, before, report, refusal, told, left};
 
+use crate::solution::Solution;
 use crate::text::put;
 use arrayvec::ArrayString;
 use itoa::Buffer;
 use listing::program::Program;
 use listing::refusal::{Reason, Refusal};
-use machines::placement::Placement;
 
 // No line or report needs more bytes than this.
 const LEAST_BUFFER: usize = 512;
@@ -46,14 +46,15 @@ pub fn refusal_line(refused: Refusal, out: &mut [u8]) -> Result<usize, Refusal>
     Ok(put_text(refusal_text(refused), out))
 }
 
-// The report of a placement.
-pub fn put_report(out: &mut [u8], program: &Program, places: Placement) -> usize
-    requires { 512 ≤ length out.old }
-    ensures end { result ≡ length (report program.now places.mask) }
-    ensures after { out.new ≡ placed out.old 0 (report program.now places.mask) }
+// The report of a kept placement.
+pub fn put_report(out: &mut [u8], program: &Program, kept: Solution) -> usize
+    requires room { 512 ≤ length out.old }
+    requires few { kept.fences ≤ 32 }
+    ensures end { result ≡ length (report program.now kept) }
+    ensures after { out.new ≡ placed out.old 0 (report program.now kept) }
     ensures limit { result ≤ 512 }
 {
-    put_text(report_text(program, places), out)
+    put_text(report_text(program, kept), out)
 }
 
 // Each text is appended by a call that cannot fail: by its contract `write!` may fail even where there is room.
@@ -88,14 +89,15 @@ fn push_before(text: &mut ArrayString<512>, program: &Program, place: u8)
 }
 
 // `fences` and their count, then a line for each place.
-fn report_text(program: &Program, places: Placement) -> ArrayString<512>
-    ensures { result.bytes ≡ report program.now places.mask }
+fn report_text(program: &Program, kept: Solution) -> ArrayString<512>
+    requires { kept.fences ≤ 32 }
+    ensures { result.bytes ≡ report program.now kept }
 {
     let mut text = ArrayString::new();
     text.push_str("fences ");
-    text.push_str(Buffer::new().format(places.count()));
+    text.push_str(Buffer::new().format(kept.fences));
     text.push_str("\n");
-    for place in places {
+    for place in kept.places {
         push_before(&mut text, program, place);
     }
     text

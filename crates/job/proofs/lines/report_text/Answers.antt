@@ -10,12 +10,14 @@ use Rattle.job.proofs.lines.report_text.Goals as goal
 pub loop-place-init : goal.loop-place-init
 unfolding report
 loop-place-init c =
-    let set = c.args.places.mask in
+    let set = c.args.kept.places.mask in
+    let fences = c.args.kept.fences in
     let whole : c.into_iter-place-iterator.result.left.mask ≡ set = ap (λ s. s.mask) c.into_iter-place-iterator.ensures.into_iter_gives in
     let small : set < 2 ^ 32 = search rules in
-    let count : c.format.result.now ≡ decimal (count_ones set) = c.format.ensures.text ∙ (printed c.count.result (omega arith) ∙ ap decimal c.count.ensures.value) in
+    let few : fences ≤ 32 = c.requires in
+    let count : c.format.result.now ≡ decimal fences = c.format.ensures.text ∙ printed fences (omega (arith, few)) in
     let start : c.push_str.new.self.bytes ≡ [] ++ codes "fences " = c.push_str.ensures.bytes ∙ ap (λ t. t ++ codes "fences ") c.new-text.ensures in
-    let second : c.push_str-2.new.self.bytes ≡ c.push_str.new.self.bytes ++ decimal (count_ones set)
+    let second : c.push_str-2.new.self.bytes ≡ c.push_str.new.self.bytes ++ decimal fences
     = c.push_str-2.ensures.bytes ∙ ap (λ t. c.push_str.new.self.bytes ++ t) count in
     let lines = befores c.args.program.now 32 set in
     record {
@@ -23,7 +25,7 @@ loop-place-init c =
       ends = tt;
       small = omega (arith, whole, small);
       room = omega (arith, ones-le 32 set small, ap count_ones whole, ap length (c.new-text.ensures));
-      joins = rw whole (after_three [] (codes "fences ") (decimal (count_ones set)) (codes "\n") lines start second c.push_str-3.ensures.bytes);
+      joins = rw whole (after_three [] (codes "fences ") (decimal fences) (codes "\n") lines start second c.push_str-3.ensures.bytes);
     }
 
 pub loop-place-preserved : goal.loop-place-preserved

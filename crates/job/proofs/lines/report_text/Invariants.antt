@@ -10,5 +10,5 @@ invariant-loop-place l =
       ends : (goal.iterator-loop-place).is_finite l.place-iterator;
       small : l.place-iterator.left.mask < 2 ^ 32;
       room : array_string_len l.text + 15 * count_ones l.place-iterator.left.mask ≤ 498;
-      joins : l.text.bytes ++ befores l.program 32 l.place-iterator.left.mask ≡ report l.program l.fn.places.mask;
+      joins : l.text.bytes ++ befores l.program 32 l.place-iterator.left.mask ≡ report l.program l.fn.kept;
     }

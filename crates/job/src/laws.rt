@@ -1,0 +1,30 @@
+// What every job promises, whatever calls it was made and changed by.
+ghost use Rattle.std.specs.Prelude.{◌≡◌};
+ghost use Rattle.job.specs.Checks.{HasThese};
+ghost use Rattle.job.specs.Promises.{Always};
+ghost use Rattle.job.specs.Refusals.{InOrder};
+ghost use Rattle.job.specs.States.{State};
+ghost use Rattle.job.specs.Texts.{ReadsAs};
+
+use machines::machine::Kind;
+
+// For each kind of machine and every list of calls, granted or not.
+pub fn every_history<K: Kind>()
+    ensures { Always (λ p. K.means (K.made p)) }
+{}
+
+// The program that a text reads as is the reading of the text.
+pub fn texts_are_read()
+    ensures { ReadsAs }
+{}
+
+// The set of some places has these and no others.
+pub fn sets_are_their_places()
+    ensures { HasThese }
+{}
+
+// Which refusals apply is said for each number by itself; a call is refused by the lowest that applies, and granted when none
+// does.
+pub fn lowest_number_first<K: Kind>()
+    ensures { (s : State) → InOrder (λ p. K.means (K.made p)) s }
+{}
