@@ -2,6 +2,7 @@ pub mod Appended
 pub mod Arising
 pub mod Befores
 pub mod Calling
+pub mod Changing
 pub mod Deciding
 pub mod Decimal
 pub mod Keeping

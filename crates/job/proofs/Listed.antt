@@ -15,7 +15,7 @@ pub behind : (x : ℕ) (xs : List ℕ) (q : ℕ) → Contains xs q → Contains 
 behind x xs q (k, lt, is) = (suc k, omega arith, is)
 
 -- what is in a set with one place more
-more : (s p q : ℕ) → (has (adding s p) q ≡ true) ↔ ((has s q ≡ true) ⊎ (p ≡ q))
+pub more : (s p q : ℕ) → (has (adding s p) q ≡ true) ↔ ((has s q ≡ true) ⊎ (p ≡ q))
 more s p q = (λ h. parts (has s q) (eqb p q) (eqb-true p q) (sym (set_laws.adding s p q) ∙ h), λ h. set_laws.adding s p q ∙ either (has s q) (eqb p q) (eq-eqb p q) h)
   where
     parts : (a b : Bool) → (b ≡ true → p ≡ q) → (a || b) ≡ true → (a ≡ true) ⊎ (p ≡ q)

@@ -1,4 +1,6 @@
 pub mod Answers
+pub mod Calls
+pub mod Changes
 pub mod Checks
 pub mod Histories
 pub mod Lent
@@ -8,4 +10,3 @@ pub mod Refusals
 pub mod States
 pub mod Text
 pub mod Texts
-pub mod Calls

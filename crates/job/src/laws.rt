@@ -1,5 +1,6 @@
 // What every job promises, whatever calls it was made and changed by.
 ghost use Rattle.std.specs.Prelude.{◌≡◌};
+ghost use Rattle.job.specs.Changes.{Changes, OpenPlaces, Seen};
 ghost use Rattle.job.specs.Checks.{HasThese};
 ghost use Rattle.job.specs.Promises.{Always};
 ghost use Rattle.job.specs.Refusals.{InOrder};
@@ -16,6 +17,13 @@ pub fn every_history<K: Kind>()
 // The program that a text reads as is the reading of the text.
 pub fn texts_are_read()
     ensures { ReadsAs }
+{}
+
+// What each call changes of a job, told by what is in the sets; a refused call changes nothing. And what `look` shows.
+pub fn calls_change<K: Kind>()
+    ensures changes { (s : State) → Changes (λ p. K.means (K.made p)) s }
+    ensures unbarred { OpenPlaces }
+    ensures seen { Seen }
 {}
 
 // The set of some places has these and no others.
