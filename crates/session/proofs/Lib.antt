@@ -1,0 +1,6 @@
+pub mod ManyWords
+pub mod Naming
+pub mod Newest
+pub mod Numbers
+pub mod Placed
+pub mod Replays

@@ -1,0 +1,7 @@
+pub mod Commands
+pub mod Lengths
+pub mod Replies
+pub mod Sessions
+pub mod Spelled
+pub mod Spots
+pub mod Words
