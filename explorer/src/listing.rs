@@ -59,9 +59,20 @@ pub struct Program {
 }
 
 impl Program {
+    /// The number of places: before each instruction there is one.
+    pub fn places(&self) -> usize {
+        self.threads.iter().map(Vec::len).sum()
+    }
+
     /// The number of a thread's first instruction, counted through the whole listing.
     pub fn first_place(&self, thread: usize) -> usize {
         self.threads[..thread].iter().map(Vec::len).sum()
+    }
+
+    /// The place before a thread's instruction, if there is that instruction.
+    pub fn place(&self, thread: usize, instruction: usize) -> Option<usize> {
+        let is_there = instruction < self.threads.get(thread)?.len();
+        is_there.then(|| self.first_place(thread) + instruction)
     }
 
     /// The thread that a place lies in, and the instruction's number within it.
@@ -77,7 +88,7 @@ impl Program {
     }
 }
 
-/// Why a listing gets no placement; the discriminant is the number that is printed.
+/// Why a call is refused; the discriminant is the number that is printed.
 #[derive(Clone, Copy, Debug, PartialEq, Eq)]
 pub enum Reason {
     TooLong = 1,
@@ -87,6 +98,12 @@ pub enum Reason {
     Limit = 5,
     Incomplete = 6,
     OutsideThread = 7,
+    NoProgram = 8,
+    NoPlace = 9,
+    AlreadySo = 10,
+    ShortRunList = 11,
+    NothingKept = 12,
+    NotKept = 13,
     TooFewRows = 14,
     NeverEnough = 15,
 }

@@ -154,11 +154,21 @@ pub fn console(path: Option<String>) -> io::Result<PathBuf> {
     Ok(console)
 }
 
-/// The program `effort`: beside the console if that is not the one that the repository builds.
+/// The program `effort`, which measures.
 pub fn effort(console: &Path) -> io::Result<PathBuf> {
+    beside(console, "effort")
+}
+
+/// The program `bench`, a session with a job.
+pub fn bench(console: &Path) -> io::Result<PathBuf> {
+    beside(console, "bench")
+}
+
+/// Another program of the repository: beside the console if that is not the one that the repository builds.
+fn beside(console: &Path, program: &str) -> io::Result<PathBuf> {
     if console == built("console")? {
-        built("effort")
+        built(program)
     } else {
-        Ok(console.with_file_name("effort"))
+        Ok(console.with_file_name(program))
     }
 }

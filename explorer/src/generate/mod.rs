@@ -1,6 +1,7 @@
-//! Random listings: plain programs, damaged ones, and ones built to need fences.
+//! Random listings: plain programs, damaged ones, and ones built to need fences. And random sessions with a job.
 
 mod built;
+pub mod commands;
 mod damaged;
 mod layout;
 mod plain;

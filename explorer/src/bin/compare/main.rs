@@ -1,8 +1,10 @@
-//! Runs the console on many listings and compares all that it prints, and its exit status, with the explorer's answer
-//! and with answers written by hand. The first argument is the console's path, if it is not the one that the
-//! repository builds.
+//! Runs the console on many listings and the bench on many sessions, and compares all that they print, and their exit
+//! status, with the explorer's answers and with answers written by hand. The first argument is the console's path, if
+//! it is not the one that the repository builds; the bench then lies beside it.
 
+mod by_hand;
 mod edges;
+mod sessions;
 mod trials;
 
 use std::collections::HashSet;
@@ -30,6 +32,9 @@ fn main() -> ExitCode {
 /// The number of failed checks.
 fn compare() -> io::Result<usize> {
     let console = process::console(env::args().nth(1))?;
+    let bench = process::bench(&console)?;
+    // Sessions name the listings that they read from here.
+    env::set_current_dir(process::repository_root()?)?;
     let mut judge = Judge::new(console);
     judge.group("examples", examples()?);
     judge.group("litmus", litmus());
@@ -39,6 +44,7 @@ fn compare() -> io::Result<usize> {
         judge.group(name, trials);
     }
     judge.check_kinds();
+    sessions::compare(&mut judge, bench)?;
     Ok(judge.conclude())
 }
 

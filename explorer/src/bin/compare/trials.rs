@@ -6,6 +6,7 @@ use std::path::PathBuf;
 
 use explorer::answer::{answer, Answer, CONSOLE_ROWS};
 use explorer::process::{run, Feed};
+use explorer::transcript::excerpt;
 
 pub struct Trial {
     name: String,
@@ -31,14 +32,6 @@ impl Trial {
 
     pub fn fed(self, feed: Feed) -> Trial {
         Trial { feed, ..self }
-    }
-
-    /// The text in one line, as far as it is worth printing.
-    fn excerpt(&self) -> String {
-        const LONGEST: usize = 600;
-        let shown = &self.text[..self.text.len().min(LONGEST)];
-        let dots = if shown.len() < self.text.len() { ".." } else { "" };
-        format!("\"{}\"{dots}", shown.escape_ascii())
     }
 }
 
@@ -78,13 +71,15 @@ impl Judge {
     /// Runs the trials of a group and prints a line about them.
     pub fn group(&mut self, name: &str, trials: Vec<Trial>) {
         self.groups.push(name.to_string());
-        let failed_before = self.failures.len();
-        for trial in &trials {
-            let complaint = self.complaint(trial);
-            self.note(complaint.map(|complaint| format!("{}: {complaint}, listing {}", trial.name, trial.excerpt())));
-        }
-        let failed = self.failures.len() - failed_before;
-        println!("{name}: {} passed, {failed} failed", trials.len() - failed);
+        let complaints: Vec<Option<String>> = trials.iter().map(|trial| self.complaint_in_full(trial)).collect();
+        self.note_all(name, complaints);
+    }
+
+    /// Counts comparisons, each with what was wrong with it, and prints a line about them.
+    pub fn note_all(&mut self, name: &str, complaints: Vec<Option<String>>) {
+        let failed = complaints.iter().flatten().count();
+        println!("{name}: {} passed, {failed} failed", complaints.len() - failed);
+        complaints.into_iter().for_each(|complaint| self.note(complaint));
     }
 
     fn note(&mut self, failure: Option<String>) {
@@ -92,6 +87,12 @@ impl Judge {
             None => self.passed += 1,
             Some(failure) => self.failures.push(failure),
         }
+    }
+
+    /// What is wrong with the answers to a trial, with the trial's name and listing.
+    fn complaint_in_full(&mut self, trial: &Trial) -> Option<String> {
+        let complaint = self.complaint(trial)?;
+        Some(format!("{}: {complaint}, listing {}", trial.name, excerpt(&trial.text, 600)))
     }
 
     /// The answers to a trial, if they are not all the same.
