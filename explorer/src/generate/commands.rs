@@ -43,7 +43,7 @@ impl Pool {
         let mut damaged: Vec<Vec<u8>> = (0..140).map(|number| damaged(random, 1 + number % 7)).collect();
         good.retain(|listing| is_small(listing));
         damaged.retain(|listing| is_small(listing));
-        let files = process::examples()?.iter().filter_map(|path| path.file_name()?.to_str()).map(read).collect();
+        let files = process::examples()?.iter().filter_map(|path| path.file_name()?.to_str()).map(example).collect();
         Ok(Pool { good: inline(good), damaged: inline(damaged), files })
     }
 }
@@ -55,11 +55,12 @@ const EDGES: [&str; 6] = [
     "bound 1\nthread\njump 0\nfault mem a 0\n",
     "bound 4\nthread\nstore a 1\nstore a 2\nstore a 3\nfault mem b 1\nfault mem a 3\nfault mem a 2\n",
     "bound 2\nthread\nstore a 1\nload r0 b\nthread\nstore b 1\nload r0 a\n\
-     fault at 0 1 at 1 1 mem a 7\nfault at 0 2 at 1 2 reg 0 r0 0 reg 1 r0 0\nfault reg 0 r0 0 reg 1 r0 0 at 0 2 at 1 2\n",
+     fault at 0 1 at 1 1 mem a 7\nfault at 0 2 at 1 2 reg 0 r0 0 reg 1 r0 0\n\
+     fault reg 0 r0 0 reg 1 r0 0 at 0 2 at 1 2\n",
     "bound 1\nthread\nload r0 a\njne r0 1 0\nload r1 b\nthread\nstore b 1\nstore a 1\nfault at 0 3 reg 0 r1 0\n",
 ];
 
-fn read(name: &str) -> Vec<u8> {
+fn example(name: &str) -> Vec<u8> {
     format!("read examples/{name}\n").into_bytes()
 }
 

@@ -53,13 +53,18 @@ impl Case {
 }
 
 pub fn cases(scratch: &Scratch) -> io::Result<Vec<Case>> {
+    let mut cases = without_files();
+    cases.extend(files(scratch)?);
+    Ok(cases)
+}
+
+fn without_files() -> Vec<Case> {
     let mut cases: Vec<Case> = TALKS.iter().map(|(reason, talk, status)| Case::talk(reason, talk, *status)).collect();
     cases.extend(no_commands());
     cases.extend(inputs());
     cases.extend(long_lines());
     cases.extend(strange_bytes());
-    cases.extend(files(scratch)?);
-    Ok(cases)
+    cases
 }
 
 type Talk = (&'static str, &'static [(&'static str, &'static str)], i32);
@@ -665,4 +670,18 @@ fn files(scratch: &Scratch) -> io::Result<Vec<Case>> {
         Case::new("a file that is not there", missing.clone(), format!("cannot {missing}"), 1),
         Case::new("a folder", "read examples\nlook\n", "cannot read examples\nkept none\n", 1),
     ])
+}
+
+#[cfg(test)]
+mod tests {
+    use super::*;
+    use explorer::session::Session;
+
+    #[test]
+    fn the_explorer_answers_as_is_written() {
+        for case in without_files() {
+            let replies = Session::default().replies(&case.input);
+            assert_eq!(case.wrong(&replies), None, "{}", case.reason);
+        }
+    }
 }
