@@ -41,6 +41,7 @@ impl Pool {
             _ => built(random, 1 + number / 4 % 4),
         }));
         let mut damaged: Vec<Vec<u8>> = (0..140).map(|number| damaged(random, 1 + number % 7)).collect();
+        good = good.into_iter().map(|listing| with_more_faults(random, listing)).collect();
         good.retain(|listing| is_small(listing));
         damaged.retain(|listing| is_small(listing));
         let files = process::examples()?.iter().filter_map(|path| path.file_name()?.to_str()).map(example).collect();
@@ -49,16 +50,35 @@ impl Pool {
 }
 
 /// Small listings of a kind that is rare among the others.
-const EDGES: [&str; 6] = [
+const EDGES: [&str; 5] = [
     "bound 1\nthread\nstore a 1\nfault mem a 2\n",
     "bound 1\nthread\nstore a 1\nfault mem a 1\n",
     "bound 1\nthread\njump 0\nfault mem a 0\n",
     "bound 4\nthread\nstore a 1\nstore a 2\nstore a 3\nfault mem b 1\nfault mem a 3\nfault mem a 2\n",
-    "bound 2\nthread\nstore a 1\nload r0 b\nthread\nstore b 1\nload r0 a\n\
-     fault at 0 1 at 1 1 mem a 7\nfault at 0 2 at 1 2 reg 0 r0 0 reg 1 r0 0\n\
-     fault reg 0 r0 0 reg 1 r0 0 at 0 2 at 1 2\n",
     "bound 1\nthread\nload r0 a\njne r0 1 0\nload r1 b\nthread\nstore b 1\nstore a 1\nfault at 0 3 reg 0 r1 0\n",
 ];
+
+/// Often with a first fault line that never holds, and with the last one once more, where there is room for them. So
+/// the first line that holds is not always the first or the last.
+fn with_more_faults(random: &mut Random, listing: Vec<u8>) -> Vec<u8> {
+    let mut lines: Vec<&[u8]> = listing.split(|&byte| byte == b'\n').collect();
+    let is_fault = |line: &&[u8]| line.trim_ascii_start().starts_with(b"fault");
+    let (Some(first), Some(last)) = (lines.iter().position(is_fault), lines.iter().rposition(is_fault)) else {
+        return listing;
+    };
+    if random.percent(40) {
+        lines.insert(last + 1, lines[last]);
+    }
+    if random.percent(40) {
+        lines.insert(first, b"fault mem h 14 mem h 15");
+    }
+    let longer = lines.join(&b'\n');
+    if listing::read(&longer).is_ok() {
+        longer
+    } else {
+        listing
+    }
+}
 
 fn example(name: &str) -> Vec<u8> {
     format!("read examples/{name}\n").into_bytes()

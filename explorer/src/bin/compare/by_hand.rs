@@ -73,6 +73,8 @@ type Talk = (&'static str, &'static [(&'static str, &'static str)], i32);
 const ONE: &str = "listing\nbound 1\nthread\nstore a 1\nfault mem a 2\nend";
 /// The same, and the fault is what the store does.
 const SEEN: &str = "listing\nbound 1\nthread\nstore a 1\nfault mem a 1\nend";
+/// The same, with a fault line before it that never holds and one after it that holds as well.
+const SEEN_TWICE: &str = "listing\nbound 1\nthread\nstore a 1\nfault mem a 2\nfault mem a 1\nfault at 0 1\nend";
 /// One standing, which is a fault.
 const SPIN: &str = "listing\nbound 1\nthread\njump 0\nfault mem a 1\nfault mem a 0\nend";
 /// Store buffering: 34 standings with queues, 13 without.
@@ -264,6 +266,18 @@ const TALKS: &[Talk] = &[
             ("solve", "refused 14 line 0"),
         ],
         1,
+    ),
+    (
+        "of the fault lines that hold the first is named",
+        &[
+            (SEEN_TWICE, "places 1"),
+            ("test", "(run)"),
+            ("plain", "(run)"),
+            ("board none", "board none"),
+            (SEEN_TWICE, "places 1"),
+            ("test 0 0", "(run)"),
+        ],
+        0,
     ),
     (
         "the unbuffered board",
