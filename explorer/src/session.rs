@@ -33,7 +33,22 @@ enum Command<'a> {
     Quit,
 }
 
+/// The line without the spaces around it.
+fn trimmed(line: &[u8]) -> &[u8] {
+    let start = line.iter().position(|&byte| byte != b' ').unwrap_or(line.len());
+    let end = line.iter().rposition(|&byte| byte != b' ').map_or(start, |last| last + 1);
+    &line[start..end]
+}
+
 impl<'a> Command<'a> {
+    /// A path is the rest of its line, so that it may have spaces in it; all other commands go by their words.
+    fn of_line(line: &'a [u8], words: &[&'a [u8]]) -> Option<Command<'a>> {
+        match trimmed(line).strip_prefix(b"read ") {
+            Some(rest) => Some(Command::Read(trimmed(rest))),
+            None => Command::new(words),
+        }
+    }
+
     fn new(words: &[&'a [u8]]) -> Option<Command<'a>> {
         let (&name, rest) = words.split_first()?;
         Some(match (name, rest) {
@@ -41,7 +56,6 @@ impl<'a> Command<'a> {
             (b"board", [b"none"]) => Command::Board(Board::Unbuffered),
             (b"rows", [rows]) => Command::Rows(number(rows, MOST_ROWS)?),
             (b"runs", [runs]) => Command::Runs(number(runs, MOST_ROWS)?),
-            (b"read", &[path]) => Command::Read(path),
             (b"listing", []) => Command::Listing,
             (b"bar", [thread, instruction]) => Command::Bar(at(thread, instruction)?),
             (b"free", [thread, instruction]) => Command::Free(at(thread, instruction)?),
@@ -172,11 +186,6 @@ pub struct Reply {
 }
 
 impl Reply {
-    /// That the file of the commands cannot be read.
-    pub fn no_commands(name: &[u8]) -> Reply {
-        Reply::new(name, "none", Board::Buffered, Answer::unreadable(name))
-    }
-
     fn new(line: &[u8], call: &'static str, board: Board, answer: Answer) -> Reply {
         let Answer { kind, printed, fails } = answer;
         Reply { line: line.to_vec(), call, kind, board, printed, fails }
@@ -255,7 +264,7 @@ impl Session {
         if words.is_empty() {
             return None;
         }
-        let Some(command) = Command::new(&words) else {
+        let Some(command) = Command::of_line(line, &words) else {
             let text = [b"no such command: ", line, b"\n"].concat();
             let answer = Answer { fails: true, ..Answer::text("no such command", text) };
             return Some(Reply::new(line, "none", self.job.board(), answer));

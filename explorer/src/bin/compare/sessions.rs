@@ -131,9 +131,13 @@ impl Bench {
         Some(format!("session from a file, {}: {wrong}, session {}", case.reason, excerpt(&case.input, 1_000)))
     }
 
+    /// Where the commands cannot be read there is no session: nothing is printed on standard output, and the status is 1.
     fn complaint_without_file(&self, path: &str) -> Option<String> {
-        let replies = [Reply::no_commands(path.as_bytes())];
-        let wrong = self.wrong(&replies, &[path], b"plain\n", Feed::Whole)?;
+        let wrong = match run(&self.path, &[path], b"plain\n", Feed::Whole) {
+            Ok(outcome) if outcome.output.is_empty() => wrong_status(&outcome, 1)?,
+            Ok(outcome) => format!("printed {}", excerpt(&outcome.output, 100)),
+            Err(error) => error.to_string(),
+        };
         Some(format!("commands from {path}, which is not there: {wrong}"))
     }
 
