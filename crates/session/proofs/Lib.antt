@@ -1,3 +1,4 @@
+pub mod HeldPrograms
 pub mod ManyWords
 pub mod Naming
 pub mod Newest

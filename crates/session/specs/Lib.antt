@@ -1,4 +1,5 @@
 pub mod Commands
+pub mod Held
 pub mod Lengths
 pub mod Replies
 pub mod Sessions

@@ -2,6 +2,7 @@
 ghost use Rattle.std.specs.Prelude.{◌≡◌, IfOk, OnOk, vec_len};
 ghost use Rattle.std.specs.Option.{option_map_or};
 ghost use Rattle.session.specs.Spots.{place_at, spot_at};
+ghost use Rattle.session.specs.Held.{IsNoReading, program_held};
 ghost use Rattle.session.specs.Lengths.{IsAsLong};
 
 use crate::board::Board;
@@ -23,12 +24,13 @@ use std::io::Write;
 // A place that no program has.
 const NO_PLACE: u8 = 255;
 
-// The program is a copy of the one that the job holds: runs are replayed on it, and places named by it.
+// The program is the one that the job holds: runs are replayed on it, and places named by it.
 #[derive(Drop)]
 pub struct Desk<K: Board> {
     job: Job<K>,
     program: Option<Program>,
     lent: Lent<K::Standing>,
+    ghost same: { program ≡ program_held job },
 }
 
 // The place before this instruction, or one that no program has where there is no such instruction.
@@ -81,7 +83,10 @@ impl<K: Board> Desk<K> {
         Ok(())
     }
 
-    fn call(&mut self, call: Call<'_>) -> Result<Answer, Refusal> {
+    // Makes a call that leaves the program as it is.
+    fn call(&mut self, call: Call<'_>) -> Result<Answer, Refusal>
+        requires { IsNoReading call }
+    {
         self.job.call(call, &mut self.lent.memory())
     }
 
@@ -95,7 +100,7 @@ impl<K: Board> Desk<K> {
 
     // Hands a listing to the job.
     pub fn read(&mut self, text: &[u8], out: &mut Vec<u8>) -> io::Result<Outcome> {
-        let answer = self.call(Call::Read(text));
+        let answer = self.job.call(Call::Read(text), &mut self.lent.memory());
         if answer.is_ok() {
             self.program = read(text).ok();
         }
@@ -129,7 +134,9 @@ impl<K: Board> Desk<K> {
         }
     }
 
-    fn ask(&mut self, call: Call<'_>, out: &mut Vec<u8>) -> io::Result<Outcome> {
+    fn ask(&mut self, call: Call<'_>, out: &mut Vec<u8>) -> io::Result<Outcome>
+        requires { IsNoReading call }
+    {
         let answer = self.call(call);
         self.put_answer(answer, out)
     }
@@ -141,7 +148,9 @@ impl<K: Board> Desk<K> {
         word: &str,
         spot: Spot,
         out: &mut Vec<u8>,
-    ) -> io::Result<Outcome> {
+    ) -> io::Result<Outcome>
+        requires { IsNoReading call }
+    {
         match self.call(call) {
             Ok(_) => {
                 put_spot(word, spot, out)?;
