@@ -219,7 +219,7 @@ impl<'a> Iterator for Lines<'a> {
 impl Lines<'_> {
     /// The lines up to one that says `end`, each with a line end.
     fn listing(&mut self) -> Vec<u8> {
-        self.take_while(|&line| line != b"end").flat_map(|line| [line, b"\n"].concat()).collect()
+        self.take_while(|&line| trimmed(line) != b"end").flat_map(|line| [line, b"\n"].concat()).collect()
     }
 }
 

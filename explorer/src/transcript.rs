@@ -32,7 +32,7 @@ impl<'a> Output<'a> {
             Printed::Exactly(text) => self.exactly(text),
             Printed::Help => self.exactly(help),
             Printed::Unreadable(name) => {
-                let begin = [b"cannot read ", name.as_slice()].concat();
+                let begin = [b"cannot read ", name.as_slice(), b": "].concat();
                 let has_begun = self.left.starts_with(&begin);
                 let line = self.line().filter(|_| has_begun);
                 line.map(|_| ()).ok_or_else(|| format!("no line begins with {}", excerpt(&begin, 80)))
@@ -85,7 +85,7 @@ impl<'a> Output<'a> {
 fn step(line: &[u8]) -> Option<PrintedStep> {
     let (number, rest) = number(line.strip_prefix(b"step ")?)?;
     let (thread, rest) = self::number(rest.strip_prefix(b" thread ")?)?;
-    let words = rest.strip_prefix(b":").unwrap_or(rest).strip_prefix(b" ")?;
+    let words = rest.strip_prefix(b": ")?;
     words.iter().any(|&byte| byte != b' ').then_some(PrintedStep { number, thread })
 }
 
@@ -121,7 +121,7 @@ mod tests {
 
     #[test]
     fn a_right_output_is_accepted() {
-        assert_eq!(complaint_of("help\nlook\nread missing\n", "help\nkept none\ncannot read missing\n"), None);
+        assert_eq!(complaint_of("help\nlook\nread missing\n", "help\nkept none\ncannot read missing: gone\n"), None);
         assert_eq!(complaint_of("read missing\nlook\n", "cannot read missing: not there\nkept none\n"), None);
         assert_eq!(complaint_of("", ""), None);
     }
@@ -132,9 +132,15 @@ mod tests {
         {
             assert!(complaint_of("look\n", output).is_some(), "{output:?}");
         }
-        for output in
-            ["", "cannot read\n", "cannot read other\n", "cannot read missing", "missing: cannot read missing\n"]
-        {
+        for output in [
+            "",
+            "cannot read\n",
+            "cannot read other: gone\n",
+            "cannot read missing\n",
+            "cannot read missingX: gone\n",
+            "cannot read missing: gone",
+            "missing: cannot read missing\n",
+        ] {
             assert!(complaint_of("read missing\n", output).is_some(), "{output:?}");
         }
     }
@@ -143,7 +149,7 @@ mod tests {
     fn a_step_is_told_in_any_words() {
         let runs = [
             "run 2\nstep 0 thread 0: store a 1\nstep 1 thread 0: a becomes 1\nfault 1\n",
-            "run 2\nstep 0 thread 0 stores\nstep 1 thread 0 drains\nfault 1\n",
+            "run 2\nstep 0 thread 0: stores\nstep 1 thread 0: drains\nfault 1\n",
         ];
         for run in runs {
             assert_eq!(complaint_of_run(run), None, "{run:?}");
@@ -155,19 +161,20 @@ mod tests {
         let runs = [
             "",
             "enough\n",
-            "run\nstep 0 thread 0 stores\nstep 1 thread 0 drains\nfault 1\n",
-            "run 02\nstep 0 thread 0 stores\nstep 1 thread 0 drains\nfault 1\n",
-            "run 1\nstep 0 thread 0 stores\nstep 1 thread 0 drains\nfault 1\n",
-            "run 3\nstep 0 thread 0 stores\nstep 1 thread 0 drains\nfault 1\n",
-            "run 2\nstep 0 thread 0\nstep 1 thread 0 drains\nfault 1\n",
-            "run 2\nstep 0 thread 0:\nstep 1 thread 0 drains\nfault 1\n",
-            "run 2\nstep 0 thread 0 \nstep 1 thread 0 drains\nfault 1\n",
-            "run 2\nstep 0 thread 0; stores\nstep 1 thread 0 drains\nfault 1\n",
-            "run 2\nstep 00 thread 0 stores\nstep 1 thread 0 drains\nfault 1\n",
-            "run 2\nstep 0 of thread 0 stores\nstep 1 thread 0 drains\nfault 1\n",
-            "run 2\nstep 0 thread 0 stores\nstep 1 thread 0 drains\n",
-            "run 2\nstep 0 thread 0 stores\nstep 1 thread 0 drains\nfault\n",
-            "run 2\nstep 0 thread 0 stores\nstep 1 thread 0 drains\nfault 1 1\n",
+            "run\nstep 0 thread 0: stores\nstep 1 thread 0: drains\nfault 1\n",
+            "run 02\nstep 0 thread 0: stores\nstep 1 thread 0: drains\nfault 1\n",
+            "run 1\nstep 0 thread 0: stores\nstep 1 thread 0: drains\nfault 1\n",
+            "run 3\nstep 0 thread 0: stores\nstep 1 thread 0: drains\nfault 1\n",
+            "run 2\nstep 0 thread 0\nstep 1 thread 0: drains\nfault 1\n",
+            "run 2\nstep 0 thread 0:\nstep 1 thread 0: drains\nfault 1\n",
+            "run 2\nstep 0 thread 0 \nstep 1 thread 0: drains\nfault 1\n",
+            "run 2\nstep 0 thread 0; stores\nstep 1 thread 0: drains\nfault 1\n",
+            "run 2\nstep 0 thread 0 stores\nstep 1 thread 0: drains\nfault 1\n",
+            "run 2\nstep 00 thread 0: stores\nstep 1 thread 0: drains\nfault 1\n",
+            "run 2\nstep 0 of thread 0: stores\nstep 1 thread 0: drains\nfault 1\n",
+            "run 2\nstep 0 thread 0: stores\nstep 1 thread 0: drains\n",
+            "run 2\nstep 0 thread 0: stores\nstep 1 thread 0: drains\nfault\n",
+            "run 2\nstep 0 thread 0: stores\nstep 1 thread 0: drains\nfault 1 1\n",
         ];
         for run in runs {
             assert!(complaint_of_run(run).is_some(), "{run:?}");
@@ -176,11 +183,11 @@ mod tests {
 
     #[test]
     fn a_wrong_run_is_told_by_what_is_wrong() {
-        let wrong = complaint_of_run("run 2\nstep 0 thread 0 stores\nstep 1 thread 1 drains\nfault 1\n");
+        let wrong = complaint_of_run("run 2\nstep 0 thread 0: stores\nstep 1 thread 1: drains\nfault 1\n");
         assert_eq!(wrong.as_deref(), Some("answer 1, to \"test\": step 1 of the run is one of thread 0, not 1"));
-        let wrong = complaint_of_run("run 2\nstep 0 thread 0 stores\nstep 1 thread 0 drains\nfault 0\n");
+        let wrong = complaint_of_run("run 2\nstep 0 thread 0: stores\nstep 1 thread 0: drains\nfault 0\n");
         assert_eq!(wrong.as_deref(), Some("answer 1, to \"test\": fault line 1 is the first that holds, not 0"));
-        let wrong = complaint_of_run("run 1\nstep 0 thread 0 stores\nfault 1\n");
+        let wrong = complaint_of_run("run 1\nstep 0 thread 0: stores\nfault 1\n");
         assert_eq!(wrong.as_deref(), Some("answer 1, to \"test\": writes still wait at the end of the run"));
     }
 }

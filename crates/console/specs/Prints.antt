@@ -4,14 +4,13 @@ use Rattle.listing.specs.declared.program.Program.{Program}
 use Rattle.listing.specs.declared.refusal.Reason.{Reason}
 use Rattle.listing.specs.declared.refusal.Refusal.{Refusal}
 use Rattle.listing.specs.Code.{places}
-use Rattle.listing.specs.Reasons.{number_of}
 use Rattle.machines.specs.declared.placement.Placement.{Placement}
 use Rattle.machines.specs.Buffered.{buffered}
 use Rattle.machines.specs.Places.{first_places}
 use Rattle.search.specs.Answers.{least_placed}
 use Rattle.job.specs.Answers.{solution}
 use Rattle.job.specs.Checks.{declined}
-use Rattle.job.specs.Text.{placed, report, refusal}
+use Rattle.job.specs.Text.{line_of, placed, report}
 use Rattle.job.specs.Texts.{program_of}
 
 -- the report of the least set of the program's places, by so many rows, or why there is none
@@ -26,9 +25,6 @@ of_program (Err e) rows = Err e
 -- the report of the least set of the program that the text spells, or the first refusal
 abbrev pub report_or_refusal : List ℕ → ℕ → Result (List ℕ) Refusal
 report_or_refusal text rows = of_program (program_of text) rows
-
-abbrev pub line_of : Refusal → List ℕ
-line_of e = refusal (number_of e.reason) e.line
 
 -- the report's length with the report in front of the buffer; where there is none the buffer is as it was
 abbrev pub reported : Result (List ℕ) Refusal → List ℕ → Result ℕ Refusal × List ℕ

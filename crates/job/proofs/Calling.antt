@@ -57,34 +57,34 @@ module _ {S : Type 0} (M : Program → Meaning S) (s : State) (l : Lists S) wher
 
     module _ (run : List ℕ) where
       pub of_test : {qs : Bor (List ℕ)} {r : Result (Option ℕ) Refusal} → c ≡ call.Test qs → mapped ≡ told answer.Tested r
-          → (ns : List ℕ) × TestRun M s qs.now (rows_lent l.rows l.notes) (length l.run) ns × ((r, lent rows notes run) ≡ after_test M s qs.now (lent l.rows l.notes l.run) (lent rows notes ns))
+          → (ns : List ℕ) × TestRun M s qs.now (rows_lent l.rows l.notes) (length l.run) ns × ((r, s, lent rows notes run) ≡ after_test M s qs.now (lent l.rows l.notes l.run) (lent rows notes ns))
           → Made c (outcome_of mapped s (searching rows notes run))
       of_test is m (ns, kept, e) = subst (λ x. Made x (outcome_of mapped s (searching rows notes run))) (sym is) (
         searching rows notes ns,
         kept,
         ap (λ x. outcome_of x s (searching rows notes run)) m
-            ∙ ap (λ (a : Result (Option ℕ) Refusal × Lent S). outcome_of (told answer.Tested a.0) s (record { rows = a.1.rows; pictures = l.pictures; notes = a.1.notes; run = a.1.run; out = l.out })) e,
+            ∙ ap (λ (a : Result (Option ℕ) Refusal × State × Lent S). outcome_of (told answer.Tested a.0) a.1 (record { rows = a.2.rows; pictures = l.pictures; notes = a.2.notes; run = a.2.run; out = l.out })) e,
       )
 
       pub of_show : {q : ℕ} {r : Result ℕ Refusal} → c ≡ call.Show q → mapped ≡ told answer.Shown r
-          → (ns : List ℕ) × ShowRun M s q (rows_lent l.rows l.notes) (length l.run) ns × ((r, lent rows notes run) ≡ after_show M s q (lent l.rows l.notes l.run) (lent rows notes ns))
+          → (ns : List ℕ) × ShowRun M s q (rows_lent l.rows l.notes) (length l.run) ns × ((r, s, lent rows notes run) ≡ after_show M s q (lent l.rows l.notes l.run) (lent rows notes ns))
           → Made c (outcome_of mapped s (searching rows notes run))
       of_show is m (ns, kept, e) = subst (λ x. Made x (outcome_of mapped s (searching rows notes run))) (sym is) (
         searching rows notes ns,
         kept,
         ap (λ x. outcome_of x s (searching rows notes run)) m
-            ∙ ap (λ (a : Result ℕ Refusal × Lent S). outcome_of (told answer.Shown a.0) s (record { rows = a.1.rows; pictures = l.pictures; notes = a.1.notes; run = a.1.run; out = l.out })) e,
+            ∙ ap (λ (a : Result ℕ Refusal × State × Lent S). outcome_of (told answer.Shown a.0) a.1 (record { rows = a.2.rows; pictures = l.pictures; notes = a.2.notes; run = a.2.run; out = l.out })) e,
       )
 
   module _ {c : Call} {mapped : Result Answer Refusal} (pictures : List Picture) (notes run : List ℕ) where
     pub of_plain : {r : Result (Option ℕ) Refusal} → c ≡ call.Plain → mapped ≡ told answer.Plain r
-        → (ns : List ℕ) × PlainRun s (rows_lent l.pictures l.notes) (length l.run) ns × ((r, lent pictures notes run) ≡ after_plain s (lent l.pictures l.notes l.run) (lent pictures notes ns))
+        → (ns : List ℕ) × PlainRun s (rows_lent l.pictures l.notes) (length l.run) ns × ((r, s, lent pictures notes run) ≡ after_plain M s (lent l.pictures l.notes l.run) (lent pictures notes ns))
         → Made c (outcome_of mapped s (plainly pictures notes run))
     of_plain is m (ns, kept, e) = subst (λ x. Made x (outcome_of mapped s (plainly pictures notes run))) (sym is) (
       plainly pictures notes ns,
       kept,
       ap (λ x. outcome_of x s (plainly pictures notes run)) m
-          ∙ ap (λ (a : Result (Option ℕ) Refusal × Lent Picture). outcome_of (told answer.Plain a.0) s (record { rows = l.rows; pictures = a.1.rows; notes = a.1.notes; run = a.1.run; out = l.out })) e,
+          ∙ ap (λ (a : Result (Option ℕ) Refusal × State × Lent Picture). outcome_of (told answer.Plain a.0) a.1 (record { rows = l.rows; pictures = a.2.rows; notes = a.2.notes; run = a.2.run; out = l.out })) e,
     )
 
   module _ {c : Call} where

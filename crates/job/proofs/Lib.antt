@@ -5,8 +5,10 @@ pub mod Calling
 pub mod Changing
 pub mod Deciding
 pub mod Decimal
+pub mod Judging
 pub mod Keeping
 pub mod Lawful
+pub mod Leaving
 pub mod Listed
 pub mod Lowest
 pub mod Needed

@@ -37,7 +37,7 @@ module _ {S : Type 0} (M : Program → Meaning S) {h : Held} {k : Solution} (l :
   verdict_is n long = rw (there, kept, is) refl
 
   given_by : (n : ℕ) (short fit : Bool) (old free : Lent S) → RunIs (verdict short fit) (Some h) M n (λ x. others x.kept q) free.run
-      → Reveals M h rest old.run free.run (told (λ _. length free.run) (verdict short fit), search_left (verdict short fit) old free)
+      → Reveals M h rest old.run free.run (told (λ _. length free.run) (verdict short fit), Some h, search_left (verdict short fit) old free)
   given_by n true fit old free run = inl refl
   given_by n false false old free run = inr (inl refl)
   given_by n false true old free run =
@@ -50,6 +50,6 @@ module _ {S : Type 0} (M : Program → Meaning S) {h : Held} {k : Solution} (l :
     given = λ old free run.
         let n = rows_lent old.rows old.notes in
         let e = verdict_is n (length old.run) in
-        subst (λ v. Reveals M h rest old.run free.run (told (λ _. length free.run) v, search_left v old free)) (sym e)
+        subst (λ v. Reveals M h rest old.run free.run (told (λ _. length free.run) v, Some h, search_left v old free)) (sym e)
         (given_by n (nat_lt (length old.run) n) (fits (M h.program) n) old free (subst (λ v. RunIs v (Some h) M n (λ x. others x.kept q) free.run) e run));
   }

@@ -16,6 +16,7 @@ use Rattle.job.specs.States.{Held, State, placement, open_places}
 use Rattle.job.specs.Text.{report}
 use Rattle.job.specs.Texts.{program_of}
 
+-- the refusal of the first check that applies, or else the value; without a program there is the one refusal
 abbrev pub answered : {X : Type 0} → State → (Held → Checks) → (Held → X) → Result X Refusal
 answered None checks value = Err (declined NoProgram)
 answered (Some h) checks value = unless_refused (checks h) (value h)
@@ -25,6 +26,7 @@ abbrev pub OfHeld : State → (Held → Type 0) → Type 0
 OfHeld None P = Unit {0}
 OfHeld (Some h) P = P h
 
+-- the number of places of a program that was read
 abbrev pub places_of : Result Program Refusal → Result ℕ Refusal
 places_of (Ok p) = Ok (places p)
 places_of (Err e) = Err e
@@ -33,6 +35,7 @@ places_of (Err e) = Err e
 abbrev pub read_answer : List ℕ → Result ℕ Refusal
 read_answer text = places_of (program_of text)
 
+-- a bar that is granted answers no more than that; so does a free
 abbrev pub bar_answer : State → ℕ → Result (Unit {0}) Refusal
 bar_answer s q = answered s (bar_checks q) (λ h. tt)
 
@@ -53,6 +56,7 @@ abbrev pub report_of : Program → Option Solution → List ℕ
 report_of p None = []
 report_of p (Some k) = report p k
 
+-- the length of the report, by the length of the buffer
 abbrev pub report_answer : State → ℕ → Result ℕ Refusal
 report_answer s long = answered s (report_checks long) (λ h. length (report_of h.program h.kept))
 
@@ -65,12 +69,15 @@ abbrev pub plain_verdict : State → ℕ → ℕ → Verdict
 plain_verdict s rows run = answered s (plain_checks rows run) (λ h. enough h.program (unbuffered h.program) rows 0)
 
 module _ {S : Type 0} (M : Program → Meaning S) where
+  -- the least set of open places that is enough, if there is one
   abbrev pub least_set : ℕ → Held → Option ℕ
   least_set rows h = least (enough h.program (M h.program) rows) (open_places h)
 
+  -- the least set and its count
   abbrev pub solve_answer : State → ℕ → Result Solution Refusal
   solve_answer s rows = answered s (solve_checks M rows) (λ h. solution (unwrap_or (least_set rows h) 0))
 
+  -- whether the set of these places is enough
   abbrev pub test_verdict : State → List ℕ → ℕ → ℕ → Verdict
   test_verdict s qs rows run = answered s (test_checks M qs rows run) (λ h. enough h.program (M h.program) rows (unwrap_or (set_of h.program qs) 0))
 
@@ -82,12 +89,15 @@ module _ {S : Type 0} (M : Program → Meaning S) where
 abbrev pub RunIs : {S : Type 0} → Verdict → State → (Program → Meaning S) → ℕ → (Held → ℕ) → List ℕ → Type 0
 RunIs v s M rows set ns = v ≡ Ok false → OfHeld s (λ h. Breaks h.program (M h.program) rows (set h) ns)
 
+-- of the run that `plain` writes
 abbrev pub PlainRun : State → ℕ → ℕ → List ℕ → Type 0
 PlainRun s rows run ns = RunIs (plain_verdict s rows run) s unbuffered rows (λ h. 0) ns
 
 module _ {S : Type 0} (M : Program → Meaning S) where
+  -- of the run that `test` writes
   abbrev pub TestRun : State → List ℕ → ℕ → ℕ → List ℕ → Type 0
   TestRun s qs rows run ns = RunIs (test_verdict M s qs rows run) s M rows (λ h. unwrap_or (set_of h.program qs) 0) ns
 
+  -- of the run that `show` writes
   abbrev pub ShowRun : State → ℕ → ℕ → ℕ → List ℕ → Type 0
   ShowRun s q rows run ns = RunIs (show_verdict M s q rows run) s M rows (λ h. others h.kept q) ns

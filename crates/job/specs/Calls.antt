@@ -12,7 +12,6 @@ use Rattle.job.specs.declared.call.Answer.{Answer}
 use Rattle.job.specs.declared.call.Answer.TheVariants as answer
 use Rattle.job.specs.declared.call.Memory.{Memory}
 use Rattle.job.specs.Answers.{PlainRun, TestRun, ShowRun}
-use Rattle.job.specs.Histories.{Test, Show, Plain, next}
 use Rattle.job.specs.Lent.{Lent, after_report, after_read, after_bar, after_free, after_solve, after_test, after_show, after_plain}
 use Rattle.job.specs.States.{State, view_of}
 
@@ -77,13 +76,13 @@ module _ {S : Type 0} (M : Program → Meaning S) where
       record { result = told answer.Solved a.0; state = a.1; lists = record { rows = a.2; pictures = l.pictures; notes = a.3; run = l.run; out = l.out } }
   outcome s (call.Test qs) l free =
       let a = after_test M s qs.now (lent_of l) (lent_of free) in
-      record { result = told answer.Tested a.0; state = next M s (Test qs.now (rows_lent l.rows l.notes) (length l.run)); lists = with_lent l a.1 }
+      record { result = told answer.Tested a.0; state = a.1; lists = with_lent l a.2 }
   outcome s (call.Show q) l free =
       let a = after_show M s q (lent_of l) (lent_of free) in
-      record { result = told answer.Shown a.0; state = next M s (Show q (rows_lent l.rows l.notes) (length l.run)); lists = with_lent l a.1 }
+      record { result = told answer.Shown a.0; state = a.1; lists = with_lent l a.2 }
   outcome s call.Plain l free =
-      let a = after_plain s (plain_of l) (plain_of free) in
-      record { result = told answer.Plain a.0; state = next M s (Plain (rows_lent l.pictures l.notes) (length l.run)); lists = with_plain l a.1 }
+      let a = after_plain M s (plain_of l) (plain_of free) in
+      record { result = told answer.Plain a.0; state = a.1; lists = with_plain l a.2 }
   outcome s call.Look l free = record { result = Ok (answer.Seen (view_of s)); state = s; lists = l }
   outcome s call.Report l free =
       let a = after_report s l.out in
@@ -95,3 +94,7 @@ module _ {S : Type 0} (M : Program → Meaning S) where
   WrittenRun s (call.Show q) l ns = ShowRun M s q (rows_lent l.rows l.notes) (length l.run) ns
   WrittenRun s call.Plain l ns = PlainRun s (rows_lent l.pictures l.notes) (length l.run) ns
   WrittenRun s _ l ns = Unit {0}
+
+  -- the call was made: this is its outcome, for some choice of what is free
+  abbrev pub IsMade : State → Call → Lists S → Outcome S → Type 0
+  IsMade s c l o = (free : Lists S) × WrittenRun s c l free.run × (o ≡ outcome s c l free)

@@ -13,6 +13,7 @@ use Rattle.search.specs.Least.{least}
 use Rattle.job.specs.declared.solution.Solution.{Solution}
 use Rattle.job.specs.States.{Held, State, open_places}
 
+-- each reason, and whether it applies
 abbrev pub Checks : Type 0
 Checks = List (Reason × Bool)
 
@@ -25,6 +26,7 @@ abbrev pub unless_refused : {X : Type 0} → Checks → X → Result X Refusal
 unless_refused [] x = Ok x
 unless_refused ((why, applies) ∷ cs) x = if applies then Err (declined why) else unless_refused cs x
 
+-- the program has no such place
 abbrev pub is_missing : Held → ℕ → Bool
 is_missing h q = not (nat_lt q (places h.program))
 
@@ -41,6 +43,7 @@ set_of p qs = set_within (places p) 0 qs
 abbrev pub HasThese : Type 0
 HasThese = (p : Program) (qs : List ℕ) (set : ℕ) → set_of p qs ≡ Some set → (q : ℕ) → (has set q ≡ true) ↔ Contains qs q
 
+-- the place is one of those that are kept
 abbrev pub is_kept : Option Solution → ℕ → Bool
 is_kept None q = false
 is_kept (Some k) q = has k.places.mask q
@@ -50,30 +53,37 @@ abbrev pub with_program : State → (Held → Checks) → Checks
 with_program None checks = (NoProgram, true) ∷ []
 with_program (Some h) checks = checks h
 
+-- the place is missing, or barred already
 abbrev pub bar_checks : ℕ → Held → Checks
 bar_checks q h = (PlaceMissing, is_missing h q) ∷ (AlreadySo, has h.barred.mask q) ∷ []
 
+-- the place is missing, or not barred
 abbrev pub free_checks : ℕ → Held → Checks
 free_checks q h = (PlaceMissing, is_missing h q) ∷ (AlreadySo, not (has h.barred.mask q)) ∷ []
 
+-- the run list is shorter than the rows, or the rows are too few for the unbuffered machine
 abbrev pub plain_checks : ℕ → ℕ → Held → Checks
 plain_checks rows run h = (RunListTooShort, nat_lt run rows) ∷ (TooFewRows, not (fits (unbuffered h.program) rows)) ∷ []
 
+-- nothing is kept, or the buffer is too short
 abbrev pub report_checks : ℕ → Held → Checks
 report_checks long h = (NoPlacement, is_none h.kept) ∷ (BufferTooShort, nat_lt long 512) ∷ []
 
 module _ {S : Type 0} (M : Program → Meaning S) where
+  -- the rows are too few, or all open places together are not enough
   abbrev pub solve_checks : ℕ → Held → Checks
   solve_checks rows h =
       (TooFewRows, not (fits (M h.program) rows)) ∷
       (NoneEnough, is_none (least (enough h.program (M h.program) rows) (open_places h))) ∷ []
 
+  -- a place is missing, the run list is shorter than the rows, or the rows are too few
   abbrev pub test_checks : List ℕ → ℕ → ℕ → Held → Checks
   test_checks qs rows run h =
       (PlaceMissing, is_none (set_of h.program qs)) ∷
       (RunListTooShort, nat_lt run rows) ∷
       (TooFewRows, not (fits (M h.program) rows)) ∷ []
 
+  -- the place is missing, the run list is shorter than the rows, nothing is kept, the place is not kept, or the rows are too few
   abbrev pub show_checks : ℕ → ℕ → ℕ → Held → Checks
   show_checks q rows run h =
       (PlaceMissing, is_missing h q) ∷

@@ -23,6 +23,7 @@ abbrev pub changed : {X : Type 0} → Result X Refusal → (X → Held → Held)
 changed (Ok x) change s = option_map (change x) s
 changed (Err e) change s = s
 
+-- what a reading leaves
 abbrev pub loaded : Result Program Refusal → State → State
 loaded (Ok p) s = Some (begun p)
 loaded (Err e) s = s

@@ -1,5 +1,5 @@
 -- Lent memory, as the lists that it holds, and what each call answers and leaves, all together.
-use Rattle.std.specs.Prelude.{ℕ, Bool, true, false, ◌||◌, ◌==◌, List, [], ◌++◌, length, drop, Some, None, Option, Ok, Err, Result, if◌then◌else◌}
+use Rattle.std.specs.Prelude.{ℕ, Bool, true, false, ◌||◌, ◌==◌, List, [], ◌∷◌, ◌++◌, length, drop, Some, None, Option, Ok, Err, Result, if◌then◌else◌, nat_lt}
 use Rattle.listing.specs.declared.program.Program.{Program}
 use Rattle.listing.specs.declared.refusal.Refusal.{Refusal}
 use Rattle.listing.specs.Reading.{told}
@@ -9,21 +9,31 @@ use Rattle.machines.specs.Machines.{Meaning}
 use Rattle.search.specs.Enough.{rows_lent}
 use Rattle.job.specs.declared.solution.Solution.{Solution}
 use Rattle.job.specs.Answers.{Verdict, read_answer, bar_answer, free_answer, solve_answer, test_verdict, show_verdict, plain_verdict, report_answer, report_of}
-use Rattle.job.specs.Histories.{Read, Bar, Free, Solve, next}
+use Rattle.job.specs.Histories.{Read, Bar, Free, Solve, Test, Show, Plain, next}
 use Rattle.job.specs.States.{State}
-use Rattle.job.specs.Text.{placed}
+use Rattle.job.specs.Text.{line_of, placed}
+use Rattle.listing.specs.declared.refusal.Reason.TheVariants.{BufferTooShort}
+use Rattle.job.specs.Checks.{unless_refused}
 
 -- what a call that writes a text leaves of the buffer
 abbrev pub text_left : Result ℕ Refusal → List ℕ → List ℕ → List ℕ
 text_left (Ok n) text out = placed out 0 text
 text_left (Err e) text out = out
 
+-- the report of what is kept
 abbrev pub kept_text : State → List ℕ
 kept_text None = []
 kept_text (Some h) = report_of h.program h.kept
 
+-- what a report answers, and what it leaves of the buffer
 abbrev pub after_report : State → List ℕ → Result ℕ Refusal × List ℕ
 after_report s out = (report_answer s (length out), text_left (report_answer s (length out)) (kept_text s) out)
+
+-- what the line of a refusal answers, and what it leaves of the buffer
+abbrev pub after_line : Refusal → List ℕ → Result ℕ Refusal × List ℕ
+after_line e out =
+    let r = unless_refused ((BufferTooShort, nat_lt (length out) 512) ∷ []) (length (line_of e)) in
+    (r, text_left r (line_of e) out)
 
 -- search memory: standings, notes, and the run list
 pub record Lent (S : Type 0) : Type 0 where
@@ -31,6 +41,7 @@ pub record Lent (S : Type 0) : Type 0 where
   pub notes : List ℕ
   pub run : List ℕ
 
+-- search memory that holds these lists
 abbrev pub lent : {S : Type 0} → List S → List ℕ → List ℕ → Lent S
 lent rows notes run = record { rows = rows; notes = notes; run = run }
 
@@ -59,12 +70,8 @@ verdict_answer (Err e) ns = Err e
 abbrev pub search_left : {S : Type 0} → Verdict → Lent S → Lent S → Lent S
 search_left v old free = record { rows = scratch_left v old.rows free.rows; notes = scratch_left v old.notes free.notes; run = run_left v free.run old.run }
 
-abbrev pub after_plain : State → Lent Picture → Lent Picture → Result (Option ℕ) Refusal × Lent Picture
-after_plain s old free =
-    let v = plain_verdict s (rows_lent old.rows old.notes) (length old.run) in
-    (verdict_answer v free.run, search_left v old free)
-
 module _ {S : Type 0} (M : Program → Meaning S) where
+  -- what `read` answers, and what the job holds then; so of `bar` and `free`
   abbrev pub after_read : State → List ℕ → Result ℕ Refusal × State
   after_read s text = (read_answer text, next M s (Read text))
 
@@ -74,16 +81,26 @@ module _ {S : Type 0} (M : Program → Meaning S) where
   abbrev pub after_free : State → ℕ → Result (Unit {0}) Refusal × State
   after_free s q = (free_answer s q, next M s (Free q))
 
-  abbrev pub after_test : State → List ℕ → Lent S → Lent S → Result (Option ℕ) Refusal × Lent S
+  -- what `test` answers, what the job holds then, and what it leaves of memory; so of `show` and `plain`
+  abbrev pub after_test : State → List ℕ → Lent S → Lent S → Result (Option ℕ) Refusal × State × Lent S
   after_test s qs old free =
-      let v = test_verdict M s qs (rows_lent old.rows old.notes) (length old.run) in
-      (verdict_answer v free.run, search_left v old free)
+      let n = rows_lent old.rows old.notes in
+      let v = test_verdict M s qs n (length old.run) in
+      (verdict_answer v free.run, next M s (Test qs n (length old.run)), search_left v old free)
 
-  abbrev pub after_show : State → ℕ → Lent S → Lent S → Result ℕ Refusal × Lent S
+  abbrev pub after_show : State → ℕ → Lent S → Lent S → Result ℕ Refusal × State × Lent S
   after_show s q old free =
-      let v = show_verdict M s q (rows_lent old.rows old.notes) (length old.run) in
-      (told (λ _. length free.run) v, search_left v old free)
+      let n = rows_lent old.rows old.notes in
+      let v = show_verdict M s q n (length old.run) in
+      (told (λ _. length free.run) v, next M s (Show q n (length old.run)), search_left v old free)
 
+  abbrev pub after_plain : State → Lent Picture → Lent Picture → Result (Option ℕ) Refusal × State × Lent Picture
+  after_plain s old free =
+      let n = rows_lent old.rows old.notes in
+      let v = plain_verdict s n (length old.run) in
+      (verdict_answer v free.run, next M s (Plain n (length old.run)), search_left v old free)
+
+  -- what `solve` answers, what the job holds then, and what stands in rows and notes; rows' and notes' are what a search leaves there
   abbrev pub after_solve : State → List S → List ℕ → List S → List ℕ → Result Solution Refusal × State × List S × List ℕ
   after_solve s rows notes rows' notes' =
       let n = rows_lent rows notes in

@@ -10,3 +10,4 @@ pub mod Refusals
 pub mod States
 pub mod Text
 pub mod Texts
+pub mod Verdicts

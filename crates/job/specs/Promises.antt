@@ -32,8 +32,8 @@ module _ {S : Type 0} (M : Program → Meaning S) where
     pub fewest : (rival : ℕ) → Within rival (open_places h) → Enough h.program (M h.program) rival → count_ones k.places.mask ≤ count_ones rival
 
   -- an answer of `show`, with what it leaves: it is refused for want of memory, or the run list begins with a fault run that keeps to the set
-  abbrev pub Reveals : Held → ℕ → List ℕ → List ℕ → Result ℕ Refusal × Lent S → Type 0
-  Reveals h set old ns (r, left) =
+  abbrev pub Reveals : Held → ℕ → List ℕ → List ℕ → Result ℕ Refusal × State × Lent S → Type 0
+  Reveals h set old ns (r, then, left) =
       (r ≡ Err (declined RunListTooShort)) ⊎ (r ≡ Err (declined TooFewRows)) ⊎
       (FaultRun h.program (M h.program) ns × KeepsTo (M h.program) ns set × (r ≡ Ok (length ns)) × (left.run ≡ ns ++ drop (length ns) old))
 
@@ -52,6 +52,7 @@ module _ {S : Type 0} (M : Program → Meaning S) where
     pub only : (set other : ℕ) → Best h.program (M h.program) (open_places h) set → Best h.program (M h.program) (open_places h) other → set ≡ other
     pub without_bars : h.barred.mask ≡ 0 → (r ≡ Err (declined NoneEnough)) ↔ ((ns : List ℕ) × FaultRun h.program (unbuffered h.program) ns)
 
+  -- what a job that holds s promises
   pub record Promises (s : State) : Type 0 where
     pub kept : (h : Held) (k : Solution) → s ≡ Some h → h.kept ≡ Some k → Stands h k
     pub shown : (h : Held) (k : Solution) (q : ℕ) → s ≡ Some h → h.kept ≡ Some k → has k.places.mask q ≡ true → Shown s h k q

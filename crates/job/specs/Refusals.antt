@@ -22,30 +22,36 @@ use Rattle.job.specs.Texts.{program_of}
 abbrev pub Holding : State → (Held → Type 0) → Type 0
 Holding s P = (h : Held) × (s ≡ Some h) × P h
 
+-- the program has no such place
 abbrev pub Missing : ℕ → Held → Type 0
 Missing q h = places h.program ≤ q
 
+-- no placement that is kept has the place
 abbrev pub NotKept : ℕ → Held → Type 0
 NotKept q h = (k : Solution) → h.kept ≡ Some k → has k.places.mask q ≡ false
 
+-- which refusals apply to a call, each by itself; those that are not named never do
 abbrev pub BarApplies : State → ℕ → Reason → Type 0
 BarApplies s q NoProgram = s ≡ None
 BarApplies s q PlaceMissing = Holding s (Missing q)
 BarApplies s q AlreadySo = Holding s (λ h. has h.barred.mask q ≡ true)
 BarApplies s q _ = ⊥
 
+-- of `free`
 abbrev pub FreeApplies : State → ℕ → Reason → Type 0
 FreeApplies s q NoProgram = s ≡ None
 FreeApplies s q PlaceMissing = Holding s (Missing q)
 FreeApplies s q AlreadySo = Holding s (λ h. has h.barred.mask q ≡ false)
 FreeApplies s q _ = ⊥
 
+-- of `plain`: the rows are those of the unbuffered machine
 abbrev pub PlainApplies : State → ℕ → ℕ → Reason → Type 0
 PlainApplies s rows run NoProgram = s ≡ None
 PlainApplies s rows run RunListTooShort = run < rows
 PlainApplies s rows run TooFewRows = Holding s (λ h. TooMany (unbuffered h.program) rows)
 PlainApplies s rows run _ = ⊥
 
+-- of `report`
 abbrev pub ReportApplies : State → ℕ → Reason → Type 0
 ReportApplies s long NoProgram = s ≡ None
 ReportApplies s long NoPlacement = Holding s (λ h. h.kept ≡ None)
@@ -53,12 +59,14 @@ ReportApplies s long BufferTooShort = long < 512
 ReportApplies s long _ = ⊥
 
 module _ {S : Type 0} (M : Program → Meaning S) where
+  -- of `solve`
   abbrev pub SolveApplies : State → ℕ → Reason → Type 0
   SolveApplies s rows NoProgram = s ≡ None
   SolveApplies s rows TooFewRows = Holding s (λ h. TooMany (M h.program) rows)
   SolveApplies s rows NoneEnough = Holding s (λ h. (ns : List ℕ) × FaultRun h.program (M h.program) ns × KeepsTo (M h.program) ns (open_places h))
   SolveApplies s rows _ = ⊥
 
+  -- of `test`
   abbrev pub TestApplies : State → List ℕ → ℕ → ℕ → Reason → Type 0
   TestApplies s qs rows run NoProgram = s ≡ None
   TestApplies s qs rows run PlaceMissing = Holding s (λ h. (q : ℕ) × Contains qs q × Missing q h)
@@ -66,6 +74,7 @@ module _ {S : Type 0} (M : Program → Meaning S) where
   TestApplies s qs rows run TooFewRows = Holding s (λ h. TooMany (M h.program) rows)
   TestApplies s qs rows run _ = ⊥
 
+  -- of `show`
   abbrev pub ShowApplies : State → ℕ → ℕ → ℕ → Reason → Type 0
   ShowApplies s q rows run NoProgram = s ≡ None
   ShowApplies s q rows run PlaceMissing = Holding s (Missing q)

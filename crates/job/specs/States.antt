@@ -17,6 +17,7 @@ pub record Held : Type 0 where
 abbrev pub State : Type 0
 State = Option Held
 
+-- the set of this mask
 abbrev pub placement : ℕ → Placement
 placement set = record { mask = set }
 
@@ -32,6 +33,7 @@ begun p = record { program = p; barred = placement 0; kept = None }
 abbrev pub barring : ℕ → Held → Held
 barring set h = record { program = h.program; barred = placement set; kept = None }
 
+-- with this placement kept
 abbrev pub keeping : Solution → Held → Held
 keeping k h = record { program = h.program; barred = h.barred; kept = Some k }
 

@@ -6,12 +6,11 @@
 --   befores p k s     these lines for the places of the set s, lowest first, k of them at most
 --   report p k        the report of a kept placement: the fence count that was kept with it, then its places
 --   refusal n line    the line that names a refusal
---   told text out     what a call answers that writes a text: its length, or a refusal of a buffer below 512 bytes
---   left text out     what it leaves in the buffer
-use Rattle.std.specs.Prelude.{ℕ, zero, suc, ◌+◌, ◌-◌, ◌/◌, ◌%◌, cond, List, [], ◌∷◌, ◌++◌, length, take, drop, Ok, Err, codes, Result, ◌==◌, nat_le, nat_lt}
+--   line_of e         the line of that refusal
+use Rattle.std.specs.Prelude.{ℕ, zero, suc, ◌+◌, ◌-◌, ◌/◌, ◌%◌, cond, List, [], ◌∷◌, ◌++◌, length, take, drop, codes, ◌==◌, nat_le}
 use Rattle.std.specs.Int.Count.{count_trailing_zeros}
 use Rattle.listing.specs.declared.refusal.Refusal.{Refusal}
-use Rattle.listing.specs.declared.refusal.Reason.TheVariants as reason
+use Rattle.listing.specs.Reasons.{number_of}
 use Rattle.listing.specs.declared.program.Program.{Program}
 use Rattle.listing.specs.Code.{place_of, thread_at}
 use Rattle.machines.specs.Places.{removing}
@@ -41,8 +40,5 @@ report p k = codes "fences " ++ (decimal k.fences ++ (codes "\n" ++ befores p 32
 unfoldable pub refusal : ℕ → ℕ → List ℕ
 refusal n line = codes "refused " ++ (decimal n ++ (codes " line " ++ (decimal line ++ codes "\n")))
 
-abbrev pub told : List ℕ → List ℕ → Result ℕ Refusal
-told text out = cond (nat_lt (length out) 512) (Err (record { reason = reason.BufferTooShort; line = 0 })) (Ok (length text))
-
-abbrev pub left : List ℕ → List ℕ → List ℕ
-left text out = cond (nat_lt (length out) 512) out (placed out 0 text)
+abbrev pub line_of : Refusal → List ℕ
+line_of e = refusal (number_of e.reason) e.line

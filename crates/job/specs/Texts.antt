@@ -12,6 +12,7 @@ abbrev pub program_within : (c : Code) (b : Bool) → keeps_limits c ≡ b → R
 program_within c true ok = Ok (record { bound = c.bound; threads = c.threads; faults = c.faults; ok = ok })
 program_within c false never = Err (record { reason = Missing; line = 0 })
 
+-- the program of a reading
 abbrev pub program_in : Result Code Refusal → Result Program Refusal
 program_in (Ok c) = program_within c (keeps_limits c) refl
 program_in (Err e) = Err e

@@ -1,6 +1,6 @@
 // A call of a job as a value, its answer, and all memory that a call may be lent.
 ghost use Rattle.std.specs.Prelude.{◌≡◌, ◌≤◌, IfOk};
-ghost use Rattle.job.specs.Calls.{IfReported, Lists, SameMemory, WrittenRun, lists_of, outcome};
+ghost use Rattle.job.specs.Calls.{IfReported, IsMade, Lists, SameMemory, WrittenRun, lists_of, outcome};
 ghost use Rattle.job.specs.Promises.{Promises};
 
 use crate::job::Job;
@@ -56,10 +56,8 @@ impl<K: Kind> Job<K> {
         call: Call<'_>,
         memory: &mut Memory<'_, K::Standing>,
     ) -> Result<Answer, Refusal>
-        ensures answer { (free : Lists _) ×
-            WrittenRun (λ p. K.means (K.made p)) self.old call.entry (lists_of memory.old) free.run ×
-            (record { result = result; state = self.new; lists = lists_of memory.new } ≡
-            outcome (λ p. K.means (K.made p)) self.old call.entry (lists_of memory.old) free) }
+        ensures answer { IsMade (λ p. K.means (K.made p)) self.old call.entry (lists_of memory.old)
+            (record { result = result; state = self.new; lists = lists_of memory.new }) }
         ensures limit { IfOk result (λ a. IfReported a (λ n. n ≤ 512)) }
         ensures same_memory { SameMemory memory.old memory.new }
     {

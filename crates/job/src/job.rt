@@ -167,7 +167,7 @@ impl<K: Kind> Job<K> {
     ) -> Result<Option<usize>, Refusal>
         ensures { (ns : List ℕ) ×
             TestRun (λ p. K.means (K.made p)) self.now places.now (rows_lent rows.old notes.old) (length run.old) ns ×
-            ((result, lent rows.new notes.new run.new) ≡
+            ((result, self.now, lent rows.new notes.new run.new) ≡
             after_test (λ p. K.means (K.made p)) self.now places.now (lent rows.old notes.old run.old) (lent rows.new notes.new ns)) }
     {
         let loaded = self.loaded.as_ref().ok_or(Reason::NoProgram.refusal())?;
@@ -185,7 +185,7 @@ impl<K: Kind> Job<K> {
     ) -> Result<usize, Refusal>
         ensures { (ns : List ℕ) ×
             ShowRun (λ p. K.means (K.made p)) self.now place (rows_lent rows.old notes.old) (length run.old) ns ×
-            ((result, lent rows.new notes.new run.new) ≡
+            ((result, self.now, lent rows.new notes.new run.new) ≡
             after_show (λ p. K.means (K.made p)) self.now place (lent rows.old notes.old run.old) (lent rows.new notes.new ns)) }
     {
         let loaded = self.loaded.as_ref().ok_or(Reason::NoProgram.refusal())?;
@@ -215,8 +215,8 @@ impl<K: Kind> Job<K> {
     ) -> Result<Option<usize>, Refusal>
         ensures { (ns : List ℕ) ×
             PlainRun self.now (rows_lent rows.old notes.old) (length run.old) ns ×
-            ((result, lent rows.new notes.new run.new) ≡
-            after_plain self.now (lent rows.old notes.old run.old) (lent rows.new notes.new ns)) }
+            ((result, self.now, lent rows.new notes.new run.new) ≡
+            after_plain (λ p. K.means (K.made p)) self.now (lent rows.old notes.old run.old) (lent rows.new notes.new ns)) }
     {
         let loaded = self.loaded.as_ref().ok_or(Reason::NoProgram.refusal())?;
         let machine = Unbuffered::of(loaded.program);

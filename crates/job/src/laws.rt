@@ -6,6 +6,7 @@ ghost use Rattle.job.specs.Promises.{Always};
 ghost use Rattle.job.specs.Refusals.{InOrder};
 ghost use Rattle.job.specs.States.{State};
 ghost use Rattle.job.specs.Texts.{ReadsAs};
+ghost use Rattle.job.specs.Verdicts.{MemoryLeft, Verdicts};
 
 use machines::machine::Kind;
 
@@ -24,6 +25,12 @@ pub fn calls_change<K: Kind>()
     ensures changes { (s : State) → Changes (λ p. K.means (K.made p)) s }
     ensures unbarred { OpenPlaces }
     ensures seen { Seen }
+{}
+
+// What the answers of `test` and `plain` mean, told by runs, and what the calls that search leave of lent memory.
+pub fn answers_mean<K: Kind>()
+    ensures verdicts { (s : State) → Verdicts (λ p. K.means (K.made p)) s }
+    ensures memory { (s : State) → MemoryLeft (λ p. K.means (K.made p)) s }
 {}
 
 // The set of some places has these and no others.

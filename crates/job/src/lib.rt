@@ -6,4 +6,4 @@ pub mod job;
 pub mod laws;
 pub mod lines;
 pub mod solution;
-pub mod text;
+mod text;

@@ -4,7 +4,8 @@ ghost use Rattle.std.specs.Prelude.{◌≡◌, ℕ, ◌+◌, ◌<◌, ◌≤◌,
 ghost use Rattle.listing.specs.declared.refusal.Reason.TheVariants.{BufferTooShort};
 ghost use Rattle.arrayvec.specs.ArrayString.{array_string_len};
 ghost use Rattle.listing.specs.Reasons.{number_of};
-ghost use Rattle.job.specs.Text.{placed, before, report, refusal, told, left};
+ghost use Rattle.job.specs.Lent.{after_line};
+ghost use Rattle.job.specs.Text.{placed, before, report, refusal};
 
 use crate::solution::Solution;
 use crate::text::put;
@@ -38,8 +39,7 @@ fn put_text(text: ArrayString<512>, out: &mut [u8]) -> usize
 
 // `refused`, the number, `line`, the line.
 pub fn refusal_line(refused: Refusal, out: &mut [u8]) -> Result<usize, Refusal>
-    ensures value { result ≡ told (refusal (number_of refused.reason) refused.line) out.old }
-    ensures after { out.new ≡ left (refusal (number_of refused.reason) refused.line) out.old }
+    ensures value { (result, out.new) ≡ after_line refused out.old }
     ensures limit { MatchResult result (λ n. n ≤ 512) (λ _. length out.old < 512) }
 {
     long_enough(out)?;
@@ -47,7 +47,7 @@ pub fn refusal_line(refused: Refusal, out: &mut [u8]) -> Result<usize, Refusal>
 }
 
 // The report of a kept placement.
-pub fn put_report(out: &mut [u8], program: &Program, kept: Solution) -> usize
+pub(crate) fn put_report(out: &mut [u8], program: &Program, kept: Solution) -> usize
     requires room { 512 ≤ length out.old }
     requires few { kept.fences ≤ 32 }
     ensures end { result ≡ length (report program.now kept) }

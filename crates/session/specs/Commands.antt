@@ -88,7 +88,7 @@ pub record NoneAtSpot (word t i : List ℕ) : Type 0 where
   pub free : word ≡ codes "free" → NamesNone t i
   pub show : word ≡ codes "show" → NamesNone t i
 
--- the words, if they are few, spell no command; of more than three words only lists of instructions are one
+-- the words, if they are three or fewer, spell no command, but that nothing is said of `read` and of `test`
 pub record SpellsNone (ws : List (List ℕ)) : Type 0 where
   pub some : ws ≢ []
   pub one : (w : List ℕ) → ws ≡ w ∷ [] → NoBare w

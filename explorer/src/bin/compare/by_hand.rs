@@ -421,6 +421,7 @@ const TALKS: &[Talk] = &[
             ("bar 1 0", "barred 1 0"),
             ("solve", BOTH),
             ("listing\nbound 9\nend", "refused 4 line 1"),
+            ("listing\nbound 9\n  end ", "refused 4 line 1"),
             ("look", "barred 1 0\nfences 2\nbefore 0 1\nbefore 1 1"),
             ("listing\nend", "refused 6 line 0"),
             ("read missing.lst", "cannot read missing.lst"),
