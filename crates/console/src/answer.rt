@@ -28,7 +28,7 @@ fn report(text: &[u8], memory: &mut Memory<'_, Standing>) -> Result<usize, Refus
     Ok(length)
 }
 
-// The length of the report, or else of the line of the first refusal.
+/// The length of the report, or else of the line of the first refusal.
 pub fn answer(text: &[u8], memory: &mut Memory<'_, Standing>) -> Result<usize, usize>
     requires { 512 ≤ length memory.old.out.now }
     ensures limit { MatchResult result (λ n. n ≤ 512) (λ n. n ≤ 512) }

@@ -9,20 +9,22 @@ use listing::refusal::Refusal;
 use machines::machine::{Kind, Machine};
 use machines::picture::Picture;
 
-// The memory that calls are lent; each uses its own part.
+/// The memory that calls are lent; each uses its own part.
 #[derive(Drop)]
 pub struct Memory<'a, S> {
-    // A search of the job's machine: its standings, at most as many as there are notes.
+    /// Standings for a search of the job's machine.
     pub rows: &'a mut [S],
-    // A search of the unbuffered machine.
+    /// Standings for a search of the unbuffered machine.
     pub pictures: &'a mut [Picture],
+    /// The other half of a search: as many rows are used as the shorter of the two lists has, at most 65,536.
     pub notes: &'a mut [u32],
-    // A fault run is written here, as step numbers.
+    /// A fault run is written here, as step numbers.
     pub run: &'a mut [u8],
-    // A report is written here.
+    /// A report is written here.
     pub out: &'a mut [u8],
 }
 
+/// One of the calls of a job, with what it is handed beside memory: a text, a place, or some places.
 #[derive(Clone, Copy)]
 pub enum Call<'a> {
     Read(&'a [u8]),
@@ -36,6 +38,7 @@ pub enum Call<'a> {
     Report,
 }
 
+/// What a call that is granted answers, a case for each call: the same as the call itself.
 #[derive(Clone, Copy)]
 pub enum Answer {
     Places(u8),
@@ -83,7 +86,7 @@ impl<K: Kind> Job<K> {
         }
     }
 
-    // Makes the call. Through this the programs do all that they do with a job.
+    /// Makes the call. Through this the programs do all that they do with a job.
     pub fn call(
         &mut self,
         call: Call<'_>,

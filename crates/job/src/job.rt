@@ -41,7 +41,7 @@ impl<K> Loaded<K> {
     }
 }
 
-// What a job holds is, for its callers, one value: nothing, or the program with its bars and the kept placement.
+/// What a job holds is, for its callers, one value: nothing, or the program with its bars and the kept placement.
 #[derive(Drop)]
 pub struct Job<K: Kind> {
     loaded: Option<Loaded<K>>,
@@ -74,7 +74,7 @@ fn set_of(program: &Program, places: &[u8]) -> Option<Placement>
 }
 
 impl<K: Kind> Job<K> {
-    // A job starts with no program.
+    /// A job starts with no program.
     pub fn new() -> Self
         ensures { result ≡ None }
     {
@@ -88,7 +88,8 @@ impl<K: Kind> Job<K> {
         let _ = &self.loaded;
     }
 
-    // Holds the program written in the listing, with no bars and no kept placement, and answers the number of its places.
+    /// Holds the program written in the listing, with no bars and no kept placement, and answers the number of its places, 1 to
+    /// 32. Refused by 1 to 7, with the line where one is concerned; the job is then as it was.
     pub fn read(&mut self, text: &[u8]) -> Result<u8, Refusal>
         ensures { (result, self.new) ≡ after_read (λ p. K.means (K.made p)) self.old text.now }
     {
@@ -102,7 +103,8 @@ impl<K: Kind> Job<K> {
         Ok(program.places())
     }
 
-    // Bars a place, and drops the kept placement.
+    /// Bars a place, and drops the kept placement. A place is an instruction's number, counted through the whole listing from 0.
+    /// Refused by 8, by 9 for a place that is not in the program, and by 10 where it is barred.
     pub fn bar(&mut self, place: u8) -> Result<(), Refusal>
         ensures { (result, self.new) ≡ after_bar (λ p. K.means (K.made p)) self.old place }
     {
@@ -118,7 +120,8 @@ impl<K: Kind> Job<K> {
         Ok(())
     }
 
-    // Frees a place, and drops the kept placement.
+    /// Frees a place, and drops the kept placement. Refused by 8, by 9 for a place that is not in the program, and by 10 where it is
+    /// not barred.
     pub fn free(&mut self, place: u8) -> Result<(), Refusal>
         ensures { (result, self.new) ≡ after_free (λ p. K.means (K.made p)) self.old place }
     {
@@ -134,7 +137,9 @@ impl<K: Kind> Job<K> {
         Ok(())
     }
 
-    // Keeps and answers the fewest open places that keep every fault out. What a search leaves in rows and notes is free.
+    /// Keeps and answers the fewest open places that keep every fault out; of equal counts, the set that holds the lowest place in
+    /// which the two differ. The rows are the shorter of the two lists, at most 65,536. What a search leaves in them is free.
+    /// Refused by 8, by 14 where there are too few rows, and by 15 where all open places together are not enough.
     pub fn solve(
         &mut self,
         rows: &mut [K::Standing],
@@ -156,8 +161,10 @@ impl<K: Kind> Job<K> {
         Ok(solution)
     }
 
-    // None where no fault run keeps to the set of these places, barred or not; else the length of the fault run that is
-    // written, which keeps to them. Which fault run it is stays free, and what a search leaves in rows and notes.
+    /// None where no fault run keeps to the set of these places, barred or not; else the length of the fault run that is
+    /// written, which keeps to them. Which fault run it is stays free, and what a search leaves in rows and notes. Places may come
+    /// in any order and more than once. Refused by 8, by 9 where one is not in the program, by 11 where the run list is shorter
+    /// than the number of rows, and by 14.
     pub fn test(
         &self,
         places: &[u8],
@@ -175,7 +182,8 @@ impl<K: Kind> Job<K> {
         test(&loaded.machine, &loaded.program, set, rows, notes, run).map_err(Reason::refusal)
     }
 
-    // The length of the fault run that is written, which keeps to the kept places but this one.
+    /// The length of the fault run that is written, which keeps to the kept places but this one. There always is one. Refused by
+    /// 8, 9, 11, 12 where nothing is kept, 13 where the place is not kept, and 14.
     pub fn show(
         &self,
         place: u8,
@@ -206,7 +214,8 @@ impl<K: Kind> Job<K> {
         Ok(found.unwrap())
     }
 
-    // None where the unbuffered machine is free of faults; else the length of the fault run of it that is written.
+    /// None where the unbuffered machine is free of faults; else the length of the fault run of it that is written. The rows are
+    /// that machine's standings. Refused by 8, 11 and 14.
     pub fn plain(
         &self,
         rows: &mut [Picture],
@@ -231,7 +240,7 @@ impl<K: Kind> Job<K> {
         .map_err(Reason::refusal)
     }
 
-    // The bars and the kept placement.
+    /// The bars and the kept placement; none of either without a program. Never refused.
     pub fn look(&self) -> View
         ensures { result ≡ view_of self.now }
     {
@@ -244,7 +253,8 @@ impl<K: Kind> Job<K> {
             .unwrap_or_default()
     }
 
-    // Writes the report of the kept placement, and answers its length.
+    /// Writes the report of the kept placement, and answers its length. Refused by 8, by 12 where nothing is kept, and by 16 where
+    /// the buffer has fewer than 512 bytes.
     pub fn report(&self, out: &mut [u8]) -> Result<usize, Refusal>
         ensures value { (result, out.new) ≡ after_report self.now out.old }
         ensures limit { IfOk result (λ n. n ≤ 512) }

@@ -10,36 +10,36 @@ ghost use Rattle.job.specs.Verdicts.{MemoryLeft, Verdicts};
 
 use machines::machine::Kind;
 
-// For each kind of machine and every list of calls, granted or not.
+/// For each kind of machine and every list of calls, granted or not.
 pub fn every_history<K: Kind>()
     ensures { Always (λ p. K.means (K.made p)) }
 {}
 
-// The program that a text reads as is the reading of the text.
+/// The program that a text reads as is the reading of the text.
 pub fn texts_are_read()
     ensures { ReadsAs }
 {}
 
-// What each call changes of a job, told by what is in the sets; a refused call changes nothing. And what `look` shows.
+/// What each call changes of a job, told by what is in the sets; a refused call changes nothing. And what `look` shows.
 pub fn calls_change<K: Kind>()
     ensures changes { (s : State) → Changes (λ p. K.means (K.made p)) s }
     ensures unbarred { OpenPlaces }
     ensures seen { Seen }
 {}
 
-// What the answers of `test` and `plain` mean, told by runs, and what the calls that search leave of lent memory.
+/// What the answers of `test` and `plain` mean, told by runs, and what the calls that search leave of lent memory.
 pub fn answers_mean<K: Kind>()
     ensures verdicts { (s : State) → Verdicts (λ p. K.means (K.made p)) s }
     ensures memory { (s : State) → MemoryLeft (λ p. K.means (K.made p)) s }
 {}
 
-// The set of some places has these and no others.
+/// The set of some places has these and no others.
 pub fn sets_are_their_places()
     ensures { HasThese }
 {}
 
-// Which refusals apply is said for each number by itself; a call is refused by the lowest that applies, and granted when none
-// does.
+/// Which refusals apply is said for each number by itself; a call is refused by the lowest that applies, and granted when none
+/// does.
 pub fn lowest_number_first<K: Kind>()
     ensures { (s : State) → InOrder (λ p. K.means (K.made p)) s }
 {}

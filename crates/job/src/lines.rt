@@ -37,7 +37,8 @@ fn put_text(text: ArrayString<512>, out: &mut [u8]) -> usize
     put(out, 0, text.as_str().as_bytes())
 }
 
-// `refused`, the number, `line`, the line.
+/// Writes `refused`, the number, `line`, the line, and answers the length. Refused by 16 where the buffer has fewer than 512
+/// bytes, which is left as it was.
 pub fn refusal_line(refused: Refusal, out: &mut [u8]) -> Result<usize, Refusal>
     ensures value { (result, out.new) ≡ after_line refused out.old }
     ensures limit { MatchResult result (λ n. n ≤ 512) (λ _. length out.old < 512) }

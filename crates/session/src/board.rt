@@ -12,13 +12,13 @@ use std::io;
 
 // A step that was taken: its number, and the standings before and after it.
 #[derive(Clone, Copy)]
-pub struct Step<'a, S> {
+pub(crate) struct Step<'a, S> {
     pub number: u8,
     pub before: &'a S,
     pub after: &'a S,
 }
 
-pub trait Board: Kind {
+pub(crate) trait Board: Kind {
     // As the command names it.
     fn name() -> &'static str;
 

@@ -7,23 +7,24 @@ ghost use Rattle.session.specs.Words.{number_of, words};
 use crate::words::{number, trimmed, words_of};
 use std::alloc::{AllocError, Global};
 
-// The most rows that a search uses, and so the most that it makes sense to lend.
+/// The most rows that a search uses, and so the most that it makes sense to lend.
 pub const MOST_ROWS: u32 = 65_536;
 
-// An instruction as reports name it: its thread, and its number within it.
+/// An instruction as reports name it: its thread, and its number within it.
 #[derive(Clone, Copy)]
 pub struct Spot {
     pub thread: u8,
     pub number: u8,
 }
 
-// The two kinds of board that a job may be for.
+/// The two kinds of board that a job may be for.
 #[derive(Clone, Copy)]
 pub enum Kinds {
     Buffered,
     Unbuffered,
 }
 
+/// What a line asks for.
 #[derive(Drop)]
 pub enum Command<'a> {
     // A line without words.
@@ -46,7 +47,7 @@ pub enum Command<'a> {
     Quit,
 }
 
-// The command that a line gives, if it gives one.
+/// The command that a line gives, if it gives one.
 pub fn command_of(alloc: Global, line: &[u8]) -> Result<Option<Command<'_>>, AllocError>
     ensures some { IfOk result (λ answer. IfSome answer (λ command. Spells command (words line.now))) }
     ensures none { IfOk result (λ answer. IfNone answer (SpellsNone (words line.now))) }

@@ -26,7 +26,7 @@ const NO_PLACE: u8 = 255;
 
 // The program is the one that the job holds: runs are replayed on it, and places named by it.
 #[derive(Drop)]
-pub struct Desk<K: Board> {
+pub(crate) struct Desk<K: Board> {
     job: Job<K>,
     program: Option<Program>,
     lent: Lent<K::Standing>,
@@ -57,7 +57,7 @@ fn spot_at(program: &Program, place: u8) -> Spot
 
 impl<K: Board> Desk<K> {
     // A new job, with no program.
-    pub fn new(alloc: Global, lengths: Lengths) -> Result<Self, AllocError>
+    pub(crate) fn new(alloc: Global, lengths: Lengths) -> Result<Self, AllocError>
         ensures { IfOk result (λ desk. IsAsLong lengths desk.lent) }
     {
         Ok(Desk {
@@ -68,7 +68,7 @@ impl<K: Board> Desk<K> {
     }
 
     // Lends memory of these lengths from now on.
-    pub fn lend(&mut self, alloc: Global, lengths: Lengths) -> Result<(), AllocError>
+    pub(crate) fn lend(&mut self, alloc: Global, lengths: Lengths) -> Result<(), AllocError>
         ensures { OnOk result (IsAsLong lengths self.new.lent) }
     {
         self.lent = Lent::new(alloc, K::blank(), lengths)?;
@@ -76,7 +76,7 @@ impl<K: Board> Desk<K> {
     }
 
     // Makes a new run list of this length.
-    pub fn lend_run(&mut self, alloc: Global, length: u32) -> Result<(), AllocError>
+    pub(crate) fn lend_run(&mut self, alloc: Global, length: u32) -> Result<(), AllocError>
         ensures { OnOk result (vec_len self.new.lent.run ≡ length) }
     {
         self.lent.run = vec![in alloc; 0u8; length as usize]?;
@@ -99,7 +99,7 @@ impl<K: Board> Desk<K> {
     }
 
     // Hands a listing to the job.
-    pub fn read(&mut self, text: &[u8], out: &mut Vec<u8>) -> io::Result<Outcome> {
+    pub(crate) fn read(&mut self, text: &[u8], out: &mut Vec<u8>) -> io::Result<Outcome> {
         let answer = self.job.call(Call::Read(text), &mut self.lent.memory());
         if answer.is_ok() {
             self.program = read(text).ok();
@@ -108,7 +108,7 @@ impl<K: Board> Desk<K> {
     }
 
     // Carries a command out, other than one that is for the session itself.
-    pub fn obey(
+    pub(crate) fn obey(
         &mut self,
         alloc: Global,
         command: Command<'_>,

@@ -8,7 +8,7 @@ use listing::program::Program;
 use machines::picture::Picture;
 
 // The number of the first fault line that holds of the picture, from 0.
-pub fn first_fault(program: &Program, picture: &Picture) -> Option<usize>
+pub(crate) fn first_fault(program: &Program, picture: &Picture) -> Option<usize>
     ensures { result ≡ position (line_holds picture.now) (lines_of program.now) }
 {
     program

@@ -10,28 +10,28 @@ const LEAST_BUFFER: usize = 512;
 
 // How long the lists are that a search is lent, and the one that a run is written into.
 #[derive(Clone, Copy)]
-pub struct Lengths {
+pub(crate) struct Lengths {
     pub rows: u32,
     pub runs: u32,
 }
 
 impl Lengths {
     // Those of a session as it starts.
-    pub fn at_start() -> Self
+    pub(crate) fn at_start() -> Self
         ensures { result ≡ record { rows = 8192; runs = 8192 } }
     {
         Lengths::of(8192)
     }
 
     // As many rows, and a run list of that length.
-    pub fn of(rows: u32) -> Self
+    pub(crate) fn of(rows: u32) -> Self
         ensures { result ≡ record { rows = rows; runs = rows } }
     {
         Lengths { rows, runs: rows }
     }
 
     // The same rows, and a run list of this length.
-    pub fn with_runs(self, runs: u32) -> Self
+    pub(crate) fn with_runs(self, runs: u32) -> Self
         ensures { result ≡ record self { runs = runs } }
     {
         Lengths { runs, ..self }
@@ -39,7 +39,7 @@ impl Lengths {
 }
 
 #[derive(Drop)]
-pub struct Lent<S> {
+pub(crate) struct Lent<S> {
     pub rows: Vec<S>,
     pub pictures: Vec<Picture>,
     pub notes: Vec<u32>,
@@ -51,7 +51,7 @@ impl<S: Copy> Lent<S> {
     ghost use Rattle.session.specs.Lengths.{IsAsLong};
 
     // Lists of these lengths, the rows filled with one standing.
-    pub fn new(alloc: Global, standing: S, lengths: Lengths) -> Result<Self, AllocError>
+    pub(crate) fn new(alloc: Global, standing: S, lengths: Lengths) -> Result<Self, AllocError>
         ensures { IfOk result (IsAsLong lengths) }
     {
         let rows = lengths.rows as usize;
@@ -64,7 +64,7 @@ impl<S: Copy> Lent<S> {
         })
     }
 
-    pub fn memory(&mut self) -> Memory<'_, S> {
+    pub(crate) fn memory(&mut self) -> Memory<'_, S> {
         Memory {
             rows: self.rows.as_mut_slice(),
             pictures: self.pictures.as_mut_slice(),
@@ -75,14 +75,14 @@ impl<S: Copy> Lent<S> {
     }
 
     // The run of this length.
-    pub fn run(&self, length: usize) -> &[u8]
+    pub(crate) fn run(&self, length: usize) -> &[u8]
         ensures { result.now ≡ take length self.now.run.items }
     {
         &self.run[..length.min(self.run.len())]
     }
 
     // The report of this length.
-    pub fn report(&self, length: usize) -> &[u8]
+    pub(crate) fn report(&self, length: usize) -> &[u8]
         ensures { result.now ≡ take length self.now.out.items }
     {
         &self.out[..length.min(self.out.len())]

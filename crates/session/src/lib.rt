@@ -1,14 +1,14 @@
 // A session at the bench: commands in words, a job that carries them out, and the answers as they are printed.
 #![tactic(auto)]
 
-pub mod board;
+mod board;
 pub mod command;
 mod desk;
-pub mod fault;
-pub mod lent;
+mod fault;
+mod lent;
 pub mod reply;
-pub mod run;
+mod run;
 pub mod session;
-pub mod spelling;
-pub mod step;
+mod spelling;
+mod step;
 pub mod words;

@@ -10,7 +10,7 @@ use listing::refusal::Refusal;
 use std::io;
 use std::io::Write;
 
-// How a command ended.
+/// How a command ended.
 #[derive(Clone, Copy, PartialEq, Eq)]
 pub enum Outcome {
     Granted,
@@ -19,7 +19,7 @@ pub enum Outcome {
 }
 
 impl Outcome {
-    // How two commands ended, of which both are to be granted.
+    /// How two commands ended, of which both are to be granted.
     pub fn and(self, other: Outcome) -> Outcome
         ensures { result ≡ both self other }
     {
@@ -29,7 +29,7 @@ impl Outcome {
         }
     }
 
-    // The status with which a process ends.
+    /// The status with which a process ends.
     pub fn status(self) -> u8
         ensures { result ≡ status_of self }
     {
@@ -42,7 +42,7 @@ impl Outcome {
 
 // The line of a refusal, as a job writes it.
 #[tactic(auto, using(crate::proofs::Placed::written_first))]
-pub fn put_refusal(refusal: Refusal, out: &mut Vec<u8>) -> io::Result<Outcome>
+pub(crate) fn put_refusal(refusal: Refusal, out: &mut Vec<u8>) -> io::Result<Outcome>
     ensures outcome { IfOk result (λ outcome. outcome ≡ Outcome.Declined) }
     ensures line { OnOk result
         (out.new.items ≡ out.old.items ++ refusal_bytes (number_of refusal.reason) refusal.line) }
@@ -53,7 +53,7 @@ pub fn put_refusal(refusal: Refusal, out: &mut Vec<u8>) -> io::Result<Outcome>
     Ok(Outcome::Declined)
 }
 
-// The line as it came, which may be no text.
+/// The line as it came, which may be no text.
 pub fn put_no_command(line: &[u8], out: &mut Vec<u8>) -> io::Result<Outcome>
     ensures outcome { IfOk result (λ outcome. outcome ≡ Outcome.Declined) }
     ensures line { OnOk result
@@ -65,7 +65,7 @@ pub fn put_no_command(line: &[u8], out: &mut Vec<u8>) -> io::Result<Outcome>
     Ok(Outcome::Declined)
 }
 
-// The path as it came, and why.
+/// The path as it came, and why.
 pub fn put_unread(path: &[u8], error: io::Error, out: &mut Vec<u8>) -> io::Result<Outcome>
     ensures { IfOk result (λ outcome. outcome ≡ Outcome.Declined) }
 {
@@ -76,7 +76,7 @@ pub fn put_unread(path: &[u8], error: io::Error, out: &mut Vec<u8>) -> io::Resul
 }
 
 // A word and the instruction that it is said of.
-pub fn put_spot(word: &str, spot: Spot, out: &mut Vec<u8>) -> io::Result<()>
+pub(crate) fn put_spot(word: &str, spot: Spot, out: &mut Vec<u8>) -> io::Result<()>
     ensures { OnOk result (out.new.items ≡ out.old.items ++ spot_line word.now spot) }
 {
     writeln!(out, "{word} {} {}", spot.thread, spot.number)
@@ -100,6 +100,6 @@ help              prints these lines
 quit              ends the session
 ";
 
-pub fn put_help(out: &mut Vec<u8>) -> io::Result<()> {
+pub(crate) fn put_help(out: &mut Vec<u8>) -> io::Result<()> {
     out.write_all(COMMANDS.as_bytes())
 }

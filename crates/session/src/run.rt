@@ -10,7 +10,11 @@ use std::io;
 use std::io::Write;
 
 // Prints the run: its length, a line for each step, and which fault line holds at its end.
-pub fn put_run<K: Board>(program: &Program, run: &[u8], out: &mut Vec<u8>) -> io::Result<()> {
+pub(crate) fn put_run<K: Board>(
+    program: &Program,
+    run: &[u8],
+    out: &mut Vec<u8>,
+) -> io::Result<()> {
     writeln!(out, "run {}", run.len())?;
     let machine = K::of(*program);
     match put_steps(program, &machine, run, out)? {

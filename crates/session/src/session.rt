@@ -19,6 +19,7 @@ enum AnyDesk {
     Unbuffered(Desk<Unbuffered>),
 }
 
+/// A session: its job, and the memory that the job is lent.
 #[derive(Drop)]
 pub struct Session {
     desk: AnyDesk,
@@ -26,7 +27,11 @@ pub struct Session {
 }
 
 impl AnyDesk {
-    fn new(alloc: Global, board: Kinds, lengths: Lengths) -> Result<Self, AllocError> {
+    ghost use Rattle.session.specs.Sessions.{Lends};
+
+    fn new(alloc: Global, board: Kinds, lengths: Lengths) -> Result<Self, AllocError>
+        ensures { IfOk result (Lends lengths) }
+    {
         match board {
             Kinds::Buffered => Ok(AnyDesk::Buffered(Desk::new(alloc, lengths)?)),
             Kinds::Unbuffered => Ok(AnyDesk::Unbuffered(Desk::new(alloc, lengths)?)),
@@ -42,11 +47,12 @@ impl AnyDesk {
 }
 
 impl Session {
-    ghost use Rattle.session.specs.Sessions.{at_start, lengths_after, lengths_of};
+    ghost use Rattle.session.specs.Sessions.{Lends, LendsAfter, LendsRun, at_start, lengths_after, lengths_of};
 
-    // A session begins at the buffered board.
+    /// A session begins at the buffered board.
     pub fn new(alloc: Global) -> Result<Self, AllocError>
-        ensures { IfOk result (λ session. lengths_of session ≡ at_start) }
+        ensures noted { IfOk result (λ session. lengths_of session ≡ at_start) }
+        ensures lent { IfOk result (λ session. Lends at_start session.desk) }
     {
         let lengths = Lengths::at_start();
         Ok(Session {
@@ -55,7 +61,7 @@ impl Session {
         })
     }
 
-    // Hands a listing to the job.
+    /// Hands a listing to the job.
     pub fn read(&mut self, text: &[u8], out: &mut Vec<u8>) -> io::Result<Outcome>
         ensures { lengths_of self.new ≡ lengths_of self.old }
     {
@@ -65,14 +71,15 @@ impl Session {
         }
     }
 
-    // Carries a command out, other than one that needs more input.
+    /// Carries a command out, other than one that needs more input.
     pub fn obey(
         &mut self,
         alloc: Global,
         command: Command<'_>,
         out: &mut Vec<u8>,
     ) -> io::Result<Outcome>
-        ensures { OnOk result (lengths_of self.new ≡ lengths_after command.entry (lengths_of self.old)) }
+        ensures noted { OnOk result (lengths_of self.new ≡ lengths_after command.entry (lengths_of self.old)) }
+        ensures lent { OnOk result (LendsAfter command.entry (lengths_of self.old) self.new.desk) }
     {
         match command {
             Command::Board(board) => {
@@ -109,7 +116,8 @@ impl Session {
 
     // Lends memory of these lengths from now on.
     fn lend(&mut self, alloc: Global, lengths: Lengths) -> Result<(), AllocError>
-        ensures { OnOk result (lengths_of self.new ≡ lengths) }
+        ensures noted { OnOk result (lengths_of self.new ≡ lengths) }
+        ensures lent { OnOk result (Lends lengths self.new.desk) }
     {
         match &mut self.desk {
             AnyDesk::Buffered(desk) => desk.lend(alloc, lengths)?,
@@ -120,7 +128,8 @@ impl Session {
     }
 
     fn lend_run(&mut self, alloc: Global, runs: u32) -> Result<(), AllocError>
-        ensures { OnOk result (lengths_of self.new ≡ record (lengths_of self.old) { runs = runs }) }
+        ensures noted { OnOk result (lengths_of self.new ≡ record (lengths_of self.old) { runs = runs }) }
+        ensures lent { OnOk result (LendsRun runs self.new.desk) }
     {
         match &mut self.desk {
             AnyDesk::Buffered(desk) => desk.lend_run(alloc, runs)?,

@@ -8,7 +8,7 @@ use std::fmt;
 
 // Prints what it holds as a listing spells it.
 #[derive(Clone, Copy)]
-pub struct Spelled<T>(pub T);
+pub(crate) struct Spelled<T>(pub T);
 
 impl fmt::Display for Spelled<Variable> {
     ghost output = { λ s. Some (variable_word s.0) };

@@ -12,7 +12,7 @@ use std::io::Write;
 
 // A step that does an instruction: what a picture shows of its thread before and after it, and memory after it.
 #[derive(Clone, Copy)]
-pub struct Change<'a> {
+pub(crate) struct Change<'a> {
     pub instruction: Instruction<u8>,
     pub before: &'a Shown,
     pub after: &'a Shown,
@@ -21,7 +21,7 @@ pub struct Change<'a> {
 
 impl Change<'_> {
     // What an instruction does where no write waits.
-    pub fn put(&self, out: &mut Vec<u8>) -> io::Result<()> {
+    pub(crate) fn put(&self, out: &mut Vec<u8>) -> io::Result<()> {
         let spelled = Spelled(self.instruction);
         match self.instruction {
             Instruction::Store(variable, _) => {
@@ -56,7 +56,7 @@ impl Change<'_> {
     }
 
     // What an instruction does where writes wait in the queue of its thread.
-    pub fn put_queued(&self, queue: &Queue, out: &mut Vec<u8>) -> io::Result<()> {
+    pub(crate) fn put_queued(&self, queue: &Queue, out: &mut Vec<u8>) -> io::Result<()> {
         let spelled = Spelled(self.instruction);
         match self.instruction {
             Instruction::Store(_, operand) => {
@@ -130,7 +130,7 @@ fn holds_write(queue: &Queue, variable: Variable) -> bool
 }
 
 // What a drain does: the oldest write of the queue before it reaches memory.
-pub fn put_drain(queue: &Queue, out: &mut Vec<u8>) -> io::Result<()> {
+pub(crate) fn put_drain(queue: &Queue, out: &mut Vec<u8>) -> io::Result<()> {
     let mut queue = *queue;
     match queue.shift() {
         Some(oldest) => {

@@ -4,7 +4,7 @@ ghost use Rattle.session.specs.Words.{Trims, number_of, words};
 
 use std::alloc::{AllocError, Global};
 
-// The words of a line, parted by one or more spaces.
+/// The words of a line, parted by one or more spaces.
 pub fn words_of(alloc: Global, line: &[u8]) -> Result<Vec<&[u8]>, AllocError>
     ensures { IfOk result (λ v. map (λ w. w.now) v.items ≡ words line.now) }
 {
@@ -13,7 +13,7 @@ pub fn words_of(alloc: Global, line: &[u8]) -> Result<Vec<&[u8]>, AllocError>
         .collect(alloc)
 }
 
-// The bytes without the spaces before and after them.
+/// The bytes without the spaces before and after them.
 pub fn trimmed(bytes: &[u8]) -> &[u8]
     ensures { Trims bytes.now result.now }
 {
@@ -28,7 +28,7 @@ pub fn trimmed(bytes: &[u8]) -> &[u8]
     &bytes[start..end]
 }
 
-// The number that is written in digits alone, none where it is more than the most.
+/// The number that is written in digits alone, none where it is more than the most.
 pub fn number(word: &[u8], most: u32) -> Option<u32>
     requires { most < 2 ^ 20 }
     ensures value { result ≡ number_of most word.now }
