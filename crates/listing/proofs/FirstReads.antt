@@ -1,12 +1,10 @@
 -- What the first of some words says, by the token that was taken. Assumes nothing.
-use Rattle.std.proofs.Common.{◌≡◌, ℕ, true, false, cond, List, [], Some, None, Option, refl, ap, ◌∙◌, Bor, MatchOption}
+use Rattle.std.proofs.Common.{◌≡◌, ℕ, true, false, cond, List, Some, None, Option, refl, ap, ◌∙◌}
 use Rattle.listing.specs.declared.code.Operand.TheVariants as operands
-use Rattle.listing.specs.declared.lexer.Token.{Token}
-use Rattle.listing.specs.declared.lexer.Token.TheVariants.{Word, Number}
-use Rattle.listing.specs.Forms.{no_form, out_of_range, means, apply, called, ranged, number, operand, register, first}
+use Rattle.listing.specs.Forms.{no_form, out_of_range, means, apply, called, ranged, number, operand, register}
 use Rattle.listing.specs.Limits.{all, between}
 use Rattle.listing.specs.Names.{register_of, value_of}
-use Rattle.listing.specs.Taking.{Comes, in_range, lift, said}
+use Rattle.listing.specs.Taking.{in_range, lift, said}
 use Rattle.listing.specs.Words.{is_digit}
 use Rattle.listing.proofs.SaidTogether.{apply_said}
 
@@ -31,8 +29,3 @@ operand_digits w h =
 pub operand_word : (w : List ℕ) → all is_digit w ≡ false → operand w ≡ apply (means operands.Register) (called (register_of w))
 unfolding operand
 operand_word w h = ap (λ t. cond t (apply (means operands.Value) (number 0 15 w)) (apply (means operands.Register) (register w))) h
-
-pub no_number_taken : (low high : ℕ) (r : Option Token) (ws vs : List (List ℕ)) (n : ℕ) → MatchOption r (ws ≡ []) (λ t. Comes t ws vs n) → ((bytes : Bor (List ℕ)) (at : ℕ) → r ≡ Some (Number bytes at) → ⊥) → first (number low high) ws ≡ no_form
-no_number_taken low high None ws vs n h none = ap (first (number low high)) h
-no_number_taken low high (Some (Word bytes at)) ws vs n h none = ap (first (number low high)) h.0 ∙ number_word low high bytes.now h.1.1
-no_number_taken low high (Some (Number bytes at)) ws vs n h none = absurd (none bytes at refl)

@@ -8,7 +8,8 @@
 --   operand_read w     the operand that is written so; and instruction_read, condition_read
 --   Valued o n r       an answer is the value, or the refusal of line n for a number out of its range
 --   Comes t ws vs n    the token t is the first of the words ws, on line n, and vs follow it
---   Took reads read w v r    the first word of w says what was read, and v is left; else the line is no form
+--   Had reads read w v o     the first word of w says what is had, and v is left; else the line is no form
+--   line_at t          the line on which the token t stands
 --   mnemonic_word k    the first word of an instruction
 --   Begins w n r       the word w is that of a mnemonic, or no instruction begins with it
 --   Operands m w v r   the words of an instruction were taken from w and v is left; else the line is no form
@@ -93,9 +94,13 @@ abbrev pub Comes : Token → List (List ℕ) → List (List ℕ) → ℕ → Typ
 Comes (Word bytes at) ws vs n = (ws ≡ bytes.now ∷ vs) × ((at ≡ n) × (all is_digit bytes.now ≡ false))
 Comes (Number bytes at) ws vs n = (ws ≡ bytes.now ∷ vs) × ((at ≡ n) × (all is_digit bytes.now ≡ true))
 
-abbrev pub Took : {X Y : Type 0} → (List ℕ → Says X) → (Y → Option X) → Words → Words → Result Y Refusal → Type 0
-Took reads read w v (Ok y) = (v.line ≡ w.line) × ((size v < size w) × ((left v ≡ rest (left w)) × (first reads (left w) ≡ said (read y))))
-Took reads read w v (Err e) = (e ≡ refusal NoForm w.line) × (first reads (left w) ≡ no_form)
+abbrev pub Had : {X Y : Type 0} → (List ℕ → Says X) → (Y → Option X) → Words → Words → Option Y → Type 0
+Had reads read w v (Some y) = (v.line ≡ w.line) × ((size v < size w) × ((left v ≡ rest (left w)) × (first reads (left w) ≡ said (read y))))
+Had reads read w v None = (v.line ≡ w.line) × (first reads (left w) ≡ no_form)
+
+abbrev pub line_at : Token → ℕ
+line_at (Word bytes at) = at
+line_at (Number bytes at) = at
 
 abbrev pub mnemonic_word : Mnemonic → List ℕ
 mnemonic_word mnemonic.Store = codes "store"

@@ -2,7 +2,7 @@
 --   WrittenOperand     an operand as it is written; and WrittenInstruction, WrittenCondition
 --   digit_at ds i      the digit that stands at place i
 --   decimal ds         the number that one or two digits write, whatever they are
---   NamesVariable w v  the word w is that of v; and NamesRegister, NamesNumber, NamesOperand
+--   NamesVariable w v  the word w is that of v; and NamesRegister
 --   operand_of w       the operand that is written so; and instruction_of, condition_of
 use Rattle.std.specs.Prelude.{List, cond, length, slice_index, ℕ, ◌*◌, ◌+◌, ◌-◌, ◌==◌, ◌≡◌}
 use Rattle.std.specs.Borrow.{Bor}
@@ -36,13 +36,6 @@ NamesVariable word v = (length word ≡ 1) × (slice_index word 0 ≡ letter v)
 
 abbrev pub NamesRegister : List ℕ → Register → Type 0
 NamesRegister word r = (length word ≡ 2) × ((slice_index word 0 ≡ 114) × (slice_index word 1 ≡ digit r))
-
-abbrev pub NamesNumber : List ℕ → Bor (List ℕ) → Type 0
-NamesNumber word digits = digits.now ≡ word
-
-abbrev pub NamesOperand : List ℕ → WrittenOperand → Type 0
-NamesOperand word (operand.Value digits) = digits.now ≡ word
-NamesOperand word (operand.Register r) = NamesRegister word r
 
 abbrev pub operand_of : WrittenOperand → Operand ℕ
 operand_of (operand.Value ds) = operand.Value (decimal ds.now)

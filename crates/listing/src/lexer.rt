@@ -3,7 +3,7 @@ ghost use Rattle.std.specs.Prelude.{◌≡◌, ◌<◌, ◌≤◌, true, false, 
 ghost use Rattle.listing.specs.declared.refusal.Reason.TheVariants.{ByteNotPermitted};
 ghost use Rattle.listing.specs.Lines.{Refused};
 ghost use Rattle.listing.specs.Reading.{refusal};
-ghost use Rattle.listing.specs.Taking.{Comes, left, size};
+ghost use Rattle.listing.specs.Taking.{Comes, left, line_at, size};
 ghost use Rattle.listing.specs.Limits.{all};
 ghost use Rattle.listing.specs.Words.{comments, content_of, ends, is_digit, parts, permitted};
 ghost use Rattle.listing.specs.Cuts.{Tells, after_word, kind, line_of, next_word, past_spaces, rest_of};
@@ -15,6 +15,17 @@ use crate::refusal::{Reason, Refusal};
 pub enum Token<'a> {
     Word { bytes: &'a [u8], line: u16 },
     Number { bytes: &'a [u8], line: u16 },
+}
+
+impl Token<'_> {
+    // The line that it stands on.
+    pub(crate) fn line(self) -> u16
+        ensures { result ≡ line_at self.entry }
+    {
+        match self {
+            Token::Word { line, .. } | Token::Number { line, .. } => line,
+        }
+    }
 }
 
 // The words of a line that are still to be taken.

@@ -1,16 +1,16 @@
-// The words of a line, taken one by one by the form that its first word begins, and the values that its numbers have. Some
-// clauses say apart what the equation beside them implies: what stands above wants only that much of it.
-ghost use Rattle.std.specs.Prelude.{List, Option, None, ◌≡◌, ℕ, ◌+◌, ◌<◌, ◌≤◌, true, [], ◌∷◌, ◌++◌, IfOk, IfErr, IfSome, Some, MatchResult};
+// The words of a line, taken one by one by the form that its first word begins, and the values that its numbers have. A number
+// out of its range is refused once all words of the line are taken, since a line without a form is refused for that. Some clauses
+// say apart what the equation beside them implies: what stands above wants only that much of it.
+ghost use Rattle.std.specs.Prelude.{◌≡◌, ℕ, ◌+◌, ◌<◌, ◌≤◌, true, [], ◌∷◌, ◌++◌, codes, IfOk, IfErr, IfSome, Some, MatchResult};
 ghost use Rattle.listing.specs.declared.refusal.Reason.TheVariants.{NoForm, NumberOutOfRange};
 ghost use Rattle.listing.specs.Forms.{called, fault, no_form, number as number_says, operand as operand_says, register as register_says, variable as variable_says};
 ghost use Rattle.listing.specs.Limits.{all, fault_fits};
 ghost use Rattle.listing.specs.Words.{is_digit};
-ghost use Rattle.std.specs.Fn.{FnReturnsAt};
-ghost use Rattle.listing.specs.Lines.{Declined, Refused, Took as TookNamed, TookSome, stands_on};
+ghost use Rattle.listing.specs.Lines.{Declined, Refused, stands_on};
 ghost use Rattle.listing.specs.Names.{value_of, variable_of, register_of};
-ghost use Rattle.listing.specs.Written.{decimal, NamesVariable, NamesRegister, NamesNumber, NamesOperand, operand_of, instruction_of, condition_of};
+ghost use Rattle.listing.specs.Written.{decimal, NamesVariable, NamesRegister, operand_of, instruction_of, condition_of};
 ghost use Rattle.listing.specs.Reading.{refusal, some};
-ghost use Rattle.listing.specs.Taking.{Begins, Operands, Whole, mnemonic_word, FormedBy, Took, TookCondition, Valued, fitted, left, number_read, operand_read, instruction_read, condition_read};
+ghost use Rattle.listing.specs.Taking.{Begins, Operands, Whole, mnemonic_word, FormedBy, Had, TookCondition, line_at, Valued, fitted, left, number_read, operand_read, instruction_read, condition_read};
 ghost use Rattle.listing.specs.Values.{operand_fits, instruction_fits, condition_fits};
 
 use crate::code::{Condition, FaultLine, Instruction, Operand, Register, Variable};
@@ -95,60 +95,153 @@ fn register_named(word: &[u8]) -> Option<Register>
     }
 }
 
-// A rule of the project: the parts of a line are had one by one by `let .. else`. It stands here once for each kind of part.
+// A rule of the project: each operand is had by `let .. else`, with the refusal of its line on the other branch. There is no
+// token in hand there, as the line may have ended, so the line is the one that the words stand on.
 impl<'a> Words<'a> {
-    // What the next word names.
-    fn named<T: Drop, F: Fn(&[u8]) -> Option<T>>(&mut self, names: F) -> Result<T, Refusal>
-        requires { F.IsAlwaysCallable names }
-        ensures { (name : List ℕ → Option T) → ((word : List ℕ) (o : Option T) → FnReturnsAt F.Fn names word o → o ≡ name word) → ((word : List ℕ) → all is_digit word ≡ true → name word ≡ None) → Took (λ word. called (name word)) Some self.old self.new result }
+    fn variable(&mut self) -> Option<Variable>
+        ensures { Had variable_says Some self.old self.new result }
     {
-        let Some(Token::Word { bytes, .. }) = self.next() else {
-            return Err(Reason::NoForm.at(self.line));
+        let Token::Word { bytes, .. } = self.next()? else {
+            return None;
         };
-        let Some(named) = names(bytes) else {
-            return Err(Reason::NoForm.at(self.line));
-        };
-        Ok(named)
+        variable_named(bytes)
     }
 
-    fn variable(&mut self) -> Result<Variable, Refusal>
-        ensures { Took variable_says Some self.old self.new result }
+    fn register(&mut self) -> Option<Register>
+        ensures { Had register_says Some self.old self.new result }
     {
-        self.named(variable_named)
-    }
-
-    fn register(&mut self) -> Result<Register, Refusal>
-        ensures { Took register_says Some self.old self.new result }
-    {
-        self.named(register_named)
-    }
-
-    pub(crate) fn digits(&mut self) -> Result<&'a [u8], Refusal>
-        ensures took { TookNamed NamesNumber self.old self.new result }
-        ensures says { (low high : ℕ) → Took (number_says low high) (number_read low high) self.old self.new result }
-    {
-        let Some(Token::Number { bytes, .. }) = self.next() else {
-            return Err(Reason::NoForm.at(self.line));
+        let Token::Word { bytes, .. } = self.next()? else {
+            return None;
         };
-        Ok(bytes)
+        register_named(bytes)
     }
 
-    fn operand(&mut self) -> Result<WrittenOperand<'a>, Refusal>
-        ensures took { TookNamed NamesOperand self.old self.new result }
-        ensures says { Took operand_says operand_read self.old self.new result }
+    pub(crate) fn digits(&mut self) -> Option<&'a [u8]>
+        ensures { (low high : ℕ) → Had (number_says low high) (number_read low high) self.old self.new result }
     {
-        let Some(first) = self.next() else {
-            return Err(Reason::NoForm.at(self.line));
+        let Token::Number { bytes, .. } = self.next()? else {
+            return None;
         };
-        match first {
-            Token::Number { bytes, .. } => Ok(Operand::Value(bytes)),
+        Some(bytes)
+    }
+
+    fn operand(&mut self) -> Option<WrittenOperand<'a>>
+        ensures { Had operand_says operand_read self.old self.new result }
+    {
+        match self.next()? {
+            Token::Number { bytes, .. } => Some(Operand::Value(bytes)),
             Token::Word { bytes, .. } => {
                 let Some(register) = register_named(bytes) else {
-                    return Err(Reason::NoForm.at(self.line));
+                    return None;
                 };
-                Ok(Operand::Register(register))
+                Some(Operand::Register(register))
             }
         }
+    }
+
+    fn store(&mut self) -> Result<WrittenInstruction<'a>, Refusal>
+        ensures { Operands (codes "store") self.old self.new result }
+    {
+        let Some(variable) = self.variable() else {
+            return Err(Reason::NoForm.at(self.line));
+        };
+        let Some(operand) = self.operand() else {
+            return Err(Reason::NoForm.at(self.line));
+        };
+        Ok(Instruction::Store(variable, operand))
+    }
+
+    fn load(&mut self) -> Result<WrittenInstruction<'a>, Refusal>
+        ensures { Operands (codes "load") self.old self.new result }
+    {
+        let Some(register) = self.register() else {
+            return Err(Reason::NoForm.at(self.line));
+        };
+        let Some(variable) = self.variable() else {
+            return Err(Reason::NoForm.at(self.line));
+        };
+        Ok(Instruction::Load(register, variable))
+    }
+
+    fn set(&mut self) -> Result<WrittenInstruction<'a>, Refusal>
+        ensures { Operands (codes "set") self.old self.new result }
+    {
+        let Some(register) = self.register() else {
+            return Err(Reason::NoForm.at(self.line));
+        };
+        let Some(operand) = self.operand() else {
+            return Err(Reason::NoForm.at(self.line));
+        };
+        Ok(Instruction::Set(register, operand))
+    }
+
+    fn add(&mut self) -> Result<WrittenInstruction<'a>, Refusal>
+        ensures { Operands (codes "add") self.old self.new result }
+    {
+        let Some(register) = self.register() else {
+            return Err(Reason::NoForm.at(self.line));
+        };
+        let Some(operand) = self.operand() else {
+            return Err(Reason::NoForm.at(self.line));
+        };
+        Ok(Instruction::Add(register, operand))
+    }
+
+    fn cas(&mut self) -> Result<WrittenInstruction<'a>, Refusal>
+        ensures { Operands (codes "cas") self.old self.new result }
+    {
+        let Some(register) = self.register() else {
+            return Err(Reason::NoForm.at(self.line));
+        };
+        let Some(variable) = self.variable() else {
+            return Err(Reason::NoForm.at(self.line));
+        };
+        let Some(old) = self.operand() else {
+            return Err(Reason::NoForm.at(self.line));
+        };
+        let Some(new) = self.operand() else {
+            return Err(Reason::NoForm.at(self.line));
+        };
+        Ok(Instruction::Cas(register, variable, old, new))
+    }
+
+    fn jump(&mut self) -> Result<WrittenInstruction<'a>, Refusal>
+        ensures { Operands (codes "jump") self.old self.new result }
+    {
+        let Some(target) = self.digits() else {
+            return Err(Reason::NoForm.at(self.line));
+        };
+        Ok(Instruction::Jump(target))
+    }
+
+    fn jump_if_equal(&mut self) -> Result<WrittenInstruction<'a>, Refusal>
+        ensures { Operands (codes "jeq") self.old self.new result }
+    {
+        let Some(register) = self.register() else {
+            return Err(Reason::NoForm.at(self.line));
+        };
+        let Some(operand) = self.operand() else {
+            return Err(Reason::NoForm.at(self.line));
+        };
+        let Some(target) = self.digits() else {
+            return Err(Reason::NoForm.at(self.line));
+        };
+        Ok(Instruction::JumpIfEqual(register, operand, target))
+    }
+
+    fn jump_unless_equal(&mut self) -> Result<WrittenInstruction<'a>, Refusal>
+        ensures { Operands (codes "jne") self.old self.new result }
+    {
+        let Some(register) = self.register() else {
+            return Err(Reason::NoForm.at(self.line));
+        };
+        let Some(operand) = self.operand() else {
+            return Err(Reason::NoForm.at(self.line));
+        };
+        let Some(target) = self.digits() else {
+            return Err(Reason::NoForm.at(self.line));
+        };
+        Ok(Instruction::JumpUnlessEqual(register, operand, target))
     }
 
     // The words after an instruction's first.
@@ -156,46 +249,60 @@ impl<'a> Words<'a> {
         ensures { Operands (mnemonic_word mnemonic) self.old self.new result }
     {
         match mnemonic {
-            Mnemonic::Store => Ok(Instruction::Store(self.variable()?, self.operand()?)),
-            Mnemonic::Load => Ok(Instruction::Load(self.register()?, self.variable()?)),
-            Mnemonic::Set => Ok(Instruction::Set(self.register()?, self.operand()?)),
-            Mnemonic::Add => Ok(Instruction::Add(self.register()?, self.operand()?)),
-            Mnemonic::Cas => Ok(Instruction::Cas(
-                self.register()?,
-                self.variable()?,
-                self.operand()?,
-                self.operand()?,
-            )),
+            Mnemonic::Store => self.store(),
+            Mnemonic::Load => self.load(),
+            Mnemonic::Set => self.set(),
+            Mnemonic::Add => self.add(),
+            Mnemonic::Cas => self.cas(),
             Mnemonic::Fence => Ok(Instruction::Fence),
-            Mnemonic::Jump => Ok(Instruction::Jump(self.digits()?)),
-            Mnemonic::JumpIfEqual => Ok(Instruction::JumpIfEqual(
-                self.register()?,
-                self.operand()?,
-                self.digits()?,
-            )),
-            Mnemonic::JumpUnlessEqual => Ok(Instruction::JumpUnlessEqual(
-                self.register()?,
-                self.operand()?,
-                self.digits()?,
-            )),
+            Mnemonic::Jump => self.jump(),
+            Mnemonic::JumpIfEqual => self.jump_if_equal(),
+            Mnemonic::JumpUnlessEqual => self.jump_unless_equal(),
         }
     }
 
+    // The next condition, none where the line ends.
     fn condition(&mut self) -> Result<Option<WrittenCondition<'a>>, Refusal>
-        ensures took { TookSome self.old self.new result }
-        ensures says { TookCondition self.old self.new result }
+        ensures { TookCondition self.old self.new result }
     {
         let Some(first) = self.next() else {
             return Ok(None);
         };
-        let Token::Word { bytes, .. } = first else {
-            return Err(Reason::NoForm.at(self.line));
+        let Token::Word { bytes, line } = first else {
+            return Err(Reason::NoForm.at(first.line()));
         };
         match bytes {
-            b"at" => Ok(Some(Condition::At(self.digits()?, self.digits()?))),
-            b"reg" => Ok(Some(Condition::Holds(self.digits()?, self.register()?, self.digits()?))),
-            b"mem" => Ok(Some(Condition::Memory(self.variable()?, self.digits()?))),
-            _ => Err(Reason::NoForm.at(self.line)),
+            b"at" => {
+                let Some(thread) = self.digits() else {
+                    return Err(Reason::NoForm.at(self.line));
+                };
+                let Some(target) = self.digits() else {
+                    return Err(Reason::NoForm.at(self.line));
+                };
+                Ok(Some(Condition::At(thread, target)))
+            }
+            b"reg" => {
+                let Some(thread) = self.digits() else {
+                    return Err(Reason::NoForm.at(self.line));
+                };
+                let Some(register) = self.register() else {
+                    return Err(Reason::NoForm.at(self.line));
+                };
+                let Some(value) = self.digits() else {
+                    return Err(Reason::NoForm.at(self.line));
+                };
+                Ok(Some(Condition::Holds(thread, register, value)))
+            }
+            b"mem" => {
+                let Some(variable) = self.variable() else {
+                    return Err(Reason::NoForm.at(self.line));
+                };
+                let Some(value) = self.digits() else {
+                    return Err(Reason::NoForm.at(self.line));
+                };
+                Ok(Some(Condition::Memory(variable, value)))
+            }
+            _ => Err(Reason::NoForm.at(line)),
         }
     }
 
@@ -216,17 +323,22 @@ impl<'a> Words<'a> {
         ensures form { IfErr result (Refused NoForm self.old.line) }
         ensures ends { MatchResult result (λ _. left self.old ≡ []) (λ e. (e ≡ refusal NoForm self.old.line) × some (left self.old) ≡ true) }
     {
-        let None = self.next() else {
-            return Err(Reason::NoForm.at(self.line));
-        };
-        Ok(())
+        match self.next() {
+            None => Ok(()),
+            Some(extra) => Err(Reason::NoForm.at(extra.line())),
+        }
     }
 
-    // An instruction whose first word is given.
-    pub(crate) fn instruction(mut self, first: &[u8]) -> Result<WrittenInstruction<'a>, Refusal>
+    // An instruction whose first word is given, with its line.
+    pub(crate) fn instruction(
+        mut self,
+        first: &[u8],
+        line: u16,
+    ) -> Result<WrittenInstruction<'a>, Refusal>
+        requires { line ≡ self.line }
         ensures { Whole first.now self.entry result }
     {
-        let mnemonic = mnemonic_named(first, self.line)?;
+        let mnemonic = mnemonic_named(first, line)?;
         let written = self.operands(mnemonic)?;
         self.end()?;
         Ok(written)
@@ -234,15 +346,18 @@ impl<'a> Words<'a> {
 
     // The form of a line by its words; its numbers may be any.
     pub fn form(mut self, first: Token<'a>) -> Result<Line<'a>, Refusal>
+        requires { line_at first ≡ self.line }
         ensures on { MatchResult result (stands_on self.entry.line) (Refused NoForm self.entry.line) }
         ensures formed { FormedBy first.entry self.entry result }
     {
-        let Token::Word { bytes, .. } = first else {
-            return Err(Reason::NoForm.at(self.line));
+        let Token::Word { bytes, line } = first else {
+            return Err(Reason::NoForm.at(first.line()));
         };
         match bytes {
             b"bound" => {
-                let digits = self.digits()?;
+                let Some(digits) = self.digits() else {
+                    return Err(Reason::NoForm.at(self.line));
+                };
                 self.end()?;
                 Ok(Line::Bound(digits))
             }
@@ -254,7 +369,7 @@ impl<'a> Words<'a> {
                 self.conditions()?;
                 Ok(Line::Fault(self))
             }
-            mnemonic => Ok(Line::Instruction(self.instruction(mnemonic)?)),
+            mnemonic => Ok(Line::Instruction(self.instruction(mnemonic, line)?)),
         }
     }
 }
@@ -307,37 +422,6 @@ fn operand(written: WrittenOperand<'_>) -> Option<Operand<u8>>
     }
 }
 
-// What an instruction says, if its numbers lie in their ranges.
-fn instruction_in_range(written: WrittenInstruction<'_>) -> Option<Instruction<u8>>
-    ensures { result ≡ instruction_read written.entry }
-{
-    Some(match written {
-        Instruction::Store(v, e) => Instruction::Store(v, operand(e)?),
-        Instruction::Load(r, v) => Instruction::Load(r, v),
-        Instruction::Set(r, e) => Instruction::Set(r, operand(e)?),
-        Instruction::Add(r, e) => Instruction::Add(r, operand(e)?),
-        Instruction::Cas(r, v, old, new) => { Instruction::Cas(r, v, operand(old)?, operand(new)?) }
-        Instruction::Fence => Instruction::Fence,
-        Instruction::Jump(n) => Instruction::Jump(target(n)?),
-        Instruction::JumpIfEqual(r, e, n) => {
-            Instruction::JumpIfEqual(r, operand(e)?, target(n)?)
-        }
-        Instruction::JumpUnlessEqual(r, e, n) => {
-            Instruction::JumpUnlessEqual(r, operand(e)?, target(n)?)
-        }
-    })
-}
-
-fn condition_in_range(written: WrittenCondition<'_>) -> Option<Condition<u8>>
-    ensures { result ≡ condition_read written.entry }
-{
-    Some(match written {
-        Condition::At(t, n) => Condition::At(thread(t)?, target(n)?),
-        Condition::Holds(t, r, d) => Condition::Holds(thread(t)?, r, value(d)?),
-        Condition::Memory(v, d) => Condition::Memory(v, value(d)?),
-    })
-}
-
 // A number from `low` to `high`, or the refusal of its line.
 pub fn number(low: u8, high: u8, digits: &[u8], line: u16) -> Result<u8, Refusal>
     ensures value { MatchResult result (λ n. (n ≡ decimal digits.now) × ((low ≤ n) × (n ≤ high))) (Refused NumberOutOfRange line) }
@@ -355,14 +439,98 @@ pub(crate) fn bound(digits: &[u8], line: u16) -> Result<u8, Refusal>
     number(1, 4, digits, line)
 }
 
+// What an instruction says, or the refusal of its line for a number out of its range.
 pub fn instruction(written: WrittenInstruction<'_>, line: u16) -> Result<Instruction<u8>, Refusal>
     ensures value { MatchResult result (λ i. (i ≡ instruction_of written.entry) × (instruction_fits i ≡ true)) (Refused NumberOutOfRange line) }
     ensures read { Valued (instruction_read written.entry) line result }
 {
-    let Some(instruction) = instruction_in_range(written) else {
-        return Err(Reason::NumberOutOfRange.at(line));
-    };
-    Ok(instruction)
+    match written {
+        Instruction::Store(v, e) => {
+            let Some(e) = operand(e) else {
+                return Err(Reason::NumberOutOfRange.at(line));
+            };
+            Ok(Instruction::Store(v, e))
+        }
+        Instruction::Load(r, v) => Ok(Instruction::Load(r, v)),
+        Instruction::Set(r, e) => {
+            let Some(e) = operand(e) else {
+                return Err(Reason::NumberOutOfRange.at(line));
+            };
+            Ok(Instruction::Set(r, e))
+        }
+        Instruction::Add(r, e) => {
+            let Some(e) = operand(e) else {
+                return Err(Reason::NumberOutOfRange.at(line));
+            };
+            Ok(Instruction::Add(r, e))
+        }
+        Instruction::Cas(r, v, old, new) => {
+            let Some(old) = operand(old) else {
+                return Err(Reason::NumberOutOfRange.at(line));
+            };
+            let Some(new) = operand(new) else {
+                return Err(Reason::NumberOutOfRange.at(line));
+            };
+            Ok(Instruction::Cas(r, v, old, new))
+        }
+        Instruction::Fence => Ok(Instruction::Fence),
+        Instruction::Jump(n) => {
+            let Some(n) = target(n) else {
+                return Err(Reason::NumberOutOfRange.at(line));
+            };
+            Ok(Instruction::Jump(n))
+        }
+        Instruction::JumpIfEqual(r, e, n) => {
+            let Some(e) = operand(e) else {
+                return Err(Reason::NumberOutOfRange.at(line));
+            };
+            let Some(n) = target(n) else {
+                return Err(Reason::NumberOutOfRange.at(line));
+            };
+            Ok(Instruction::JumpIfEqual(r, e, n))
+        }
+        Instruction::JumpUnlessEqual(r, e, n) => {
+            let Some(e) = operand(e) else {
+                return Err(Reason::NumberOutOfRange.at(line));
+            };
+            let Some(n) = target(n) else {
+                return Err(Reason::NumberOutOfRange.at(line));
+            };
+            Ok(Instruction::JumpUnlessEqual(r, e, n))
+        }
+    }
+}
+
+// What a condition says, or the same refusal.
+fn condition(written: WrittenCondition<'_>, line: u16) -> Result<Condition<u8>, Refusal>
+    ensures { Valued (condition_read written.entry) line result }
+{
+    match written {
+        Condition::At(t, n) => {
+            let Some(t) = thread(t) else {
+                return Err(Reason::NumberOutOfRange.at(line));
+            };
+            let Some(n) = target(n) else {
+                return Err(Reason::NumberOutOfRange.at(line));
+            };
+            Ok(Condition::At(t, n))
+        }
+        Condition::Holds(t, r, d) => {
+            let Some(t) = thread(t) else {
+                return Err(Reason::NumberOutOfRange.at(line));
+            };
+            let Some(d) = value(d) else {
+                return Err(Reason::NumberOutOfRange.at(line));
+            };
+            Ok(Condition::Holds(t, r, d))
+        }
+        Condition::Memory(v, d) => {
+            let Some(d) = value(d) else {
+                return Err(Reason::NumberOutOfRange.at(line));
+            };
+            Ok(Condition::Memory(v, d))
+        }
+    }
 }
 
 // The conditions of a fault line. All its words are taken before a number or the count is refused.
@@ -374,10 +542,10 @@ pub fn fault_line(mut words: Words<'_>) -> Result<FaultLine, Refusal>
     let mut fault = FaultLine::new();
     let mut wrong = None;
     while let Some(written) = words.condition()? {
-        match condition_in_range(written) {
-            None => wrong = Some(Reason::NumberOutOfRange),
-            Some(condition) if !fault.is_full() => fault.push(condition),
-            Some(_) => wrong = wrong.or(Some(Reason::TooMany)),
+        match condition(written, line) {
+            Err(refusal) => wrong = Some(refusal.reason),
+            Ok(condition) if !fault.is_full() => fault.push(condition),
+            Ok(_) => wrong = wrong.or(Some(Reason::TooMany)),
         }
     }
     if let Some(reason) = wrong {
