@@ -22,6 +22,7 @@ pub mod LineSteps
 pub mod LinesHeld
 pub mod NextLine
 pub mod NextWord
+pub mod Numbering
 pub mod Pairs
 pub mod Pieces
 pub mod PlainText

@@ -7,6 +7,7 @@ pub mod Laws
 pub mod Limits
 pub mod Lines
 pub mod Names
+pub mod Numbering
 pub mod Reading
 pub mod Reasons
 pub mod Spelling

@@ -1,6 +1,7 @@
-// What holds of reading as a whole, beyond the answer to one text.
+// What holds of reading as a whole, beyond the answer to one text, and of what is read.
 ghost use Rattle.listing.specs.Examples.{ExamplesRead};
 ghost use Rattle.listing.specs.Laws.{InReach, KnownByLists, ProgramsInReach};
+ghost use Rattle.listing.specs.Numbering.{PlacesCount, RegistersApart, VariablesApart};
 
 // Does nothing: its contract names the laws.
 pub fn reading_stands()
@@ -8,4 +9,11 @@ pub fn reading_stands()
     ensures programs_in_reach { ProgramsInReach }
     ensures known_by_lists { KnownByLists }
     ensures examples { ExamplesRead }
+{}
+
+// How the instructions of a listing, registers and variables are numbered.
+pub fn numbers_count()
+    ensures places { PlacesCount }
+    ensures registers { RegistersApart }
+    ensures variables { VariablesApart }
 {}
