@@ -29,6 +29,7 @@ pub mod PlainText
 pub mod Programs
 pub mod Promised
 pub mod ReadFits
+pub mod Reasons
 pub mod Recursive
 pub mod Results
 pub mod Rising
@@ -40,6 +41,7 @@ pub mod SpelledWords
 pub mod Stands
 pub mod Unbroken
 pub mod Within
+pub mod WithinLimits
 pub mod WordLines
 pub mod WordSpells
 pub mod WordsInTurn

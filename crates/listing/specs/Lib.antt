@@ -13,5 +13,6 @@ pub mod Reasons
 pub mod Spelling
 pub mod Taking
 pub mod Values
+pub mod WithinLimits
 pub mod Words
 pub mod Written

@@ -2,6 +2,8 @@
 ghost use Rattle.listing.specs.Examples.{ExamplesRead};
 ghost use Rattle.listing.specs.Laws.{InReach, KnownByLists, ProgramsInReach};
 ghost use Rattle.listing.specs.Numbering.{PlacesCount, RegistersApart, VariablesApart};
+ghost use Rattle.listing.specs.Reasons.{NumbersAreTheTable};
+ghost use Rattle.listing.specs.WithinLimits.{LimitsAre};
 
 // Does nothing: its contract names the laws.
 pub fn reading_stands()
@@ -11,9 +13,11 @@ pub fn reading_stands()
     ensures examples { ExamplesRead }
 {}
 
-// How the instructions of a listing, registers and variables are numbered.
-pub fn numbers_count()
+// What a program keeps, and how its parts and the refusals are numbered.
+pub fn numbers_stand()
+    ensures limits { LimitsAre }
     ensures places { PlacesCount }
     ensures registers { RegistersApart }
     ensures variables { VariablesApart }
+    ensures refusals { NumbersAreTheTable }
 {}
