@@ -1,4 +1,5 @@
 pub mod Answered
+pub mod Astray
 pub mod ByWords
 pub mod Checking
 pub mod Counts

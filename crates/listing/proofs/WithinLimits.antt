@@ -17,6 +17,8 @@ use Rattle.listing.specs.Values.{condition_fits, instruction_fits, operand_fits}
 use Rattle.listing.specs.WithinLimits.{OneTo, OperandKeeps, InstructionKeeps, ConditionKeeps, ThreadKeeps, FaultKeeps, Keeps, LimitsAre}
 use Rattle.listing.proofs.Counts.{is_between}
 use Rattle.listing.proofs.Grown.{together_is}
+use Rattle.listing.proofs.Kept.{all_from_each, all_join, each}
+use Rattle.listing.proofs.Recursive.{all_weaker}
 use Rattle.listing.proofs.Within.{fault_parts, thread_parts, within}
 
 one_to : (most n : ℕ) → between 1 most n ≡ true → OneTo most n
@@ -27,26 +29,14 @@ one_to most n h =
 module _ {X : Type 0} (f : X → Bool) (P : X → Type 0) where
   -- a test that a list passes, and what it tells
   told_each : ((x : X) → f x ≡ true → P x) → (xs : List X) → all f xs ≡ true → All P xs
-  told_each tells xs h = All-from_recursion P xs (each xs h)
-    where
-      each : (xs : List X) → all f xs ≡ true → AllByRecursion P xs
-      each [] h = tt
-      each (x ∷ xs) h = let parts = and_parts (f x) (all f xs) h in (tells x parts.0, each xs parts.1)
+  told_each tells xs h = All-from_recursion P xs (all_weaker (λ x. f x ≡ true) P tells xs (each f xs h))
 
   passed_each : ((x : X) → P x → f x ≡ true) → (xs : List X) → All P xs → all f xs ≡ true
-  passed_each passes xs h = each xs (recursion_from_All P xs h)
-    where
-      each : (xs : List X) → AllByRecursion P xs → all f xs ≡ true
-      each [] h = refl
-      each (x ∷ xs) h = and_from (f x) (all f xs) (passes x h.0) (each xs h.1)
+  passed_each passes xs h = all_from_each f xs (all_weaker P (λ x. f x ≡ true) passes xs (recursion_from_All P xs h))
 
 -- two tests at once
 both_pass : {X : Type 0} (f g : X → Bool) (xs : List X) → all f xs ≡ true → all g xs ≡ true → all (λ x. f x && g x) xs ≡ true
-both_pass f g [] h k = refl
-both_pass f g (x ∷ xs) h k =
-    let a = and_parts (f x) (all f xs) h in
-    let b = and_parts (g x) (all g xs) k in
-    and_from (f x && g x) _ (and_from (f x) (g x) a.0 b.0) (both_pass f g xs a.1 b.1)
+both_pass f g = all_join f g (λ x. f x && g x) (λ x. and_from (f x) (g x))
 
 operand_told : (e : Operand ℕ) → operand_fits e ≡ true → OperandKeeps e
 operand_told (Value d) h = OperandKeeps.value (leb-true d 15 h)

@@ -1,3 +1,4 @@
+pub mod Astray
 pub mod Code
 pub mod Cuts
 pub mod Drafts
