@@ -1,9 +1,9 @@
 -- The first line of a part that fails a test is what the search for it finds. Assumes nothing.
-use Rattle.std.proofs.Common.{◌≡◌, ℕ, ◌<◌, ◌≤◌, Bool, true, false, cond, List, [], ◌∷◌, length, Some, None, Ok, refl, ap, ◌∙◌, inl, inr, arith}
+use Rattle.std.proofs.Common.{◌≡◌, ℕ, ◌<◌, ◌≤◌, Bool, true, false, cond, List, [], ◌∷◌, length, Some, None, Ok, ◌⊎◌, refl, ap, ◌∙◌, inl, inr, arith}
 use Rattle.std.proofs.lemmas.Bool.{not_from_false}
 use Rattle.std.specs.List.{AllByRecursion as All}
 use Rattle.listing.specs.declared.code.Instruction.{Instruction}
-use Rattle.listing.specs.Laws.{Somewhere, thread_by_thread, EmptyOn, JumpAstrayOn, FaultAstrayOn}
+use Rattle.listing.specs.Laws.{Somewhere, thread_by_thread, EmptyOn}
 use Rattle.listing.specs.Limits.{all, jump_within, condition_there}
 use Rattle.listing.specs.Reading.{Progress, nothing, some, read_lines, first_failing, or_else, jump_failing}
 use Rattle.listing.proofs.Counts.{none_there}
@@ -99,6 +99,16 @@ jump_first (m ∷ ns) (is ∷ nss) (t ∷ ts) n k l r h s =
           ]
     ] refl h
 
+-- line n has a jump, or a condition, that fails its test
+abbrev pub JumpFailsOn : Progress → ℕ → Type 0
+JumpFailsOn p n = Somewhere (Leads n) p.instruction_lines p.threads
+
+abbrev pub FaultFailsOn : Progress → ℕ → Type 0
+FaultFailsOn p n = Somewhere (Fails (all (condition_there p.threads)) n) p.fault_lines p.faults
+
+abbrev pub FailsOn : Progress → ℕ → Type 0
+FailsOn p n = JumpFailsOn p n ⊎ FaultFailsOn p n
+
 -- what has been read, by its lines
 module _ (ls : List (List ℕ)) (p : Progress) (read : read_lines nothing 1 ls ≡ Ok p) where
   pub sound : Sound p
@@ -117,13 +127,13 @@ module _ (ls : List (List ℕ)) (p : Progress) (read : read_lines nothing 1 ls �
   rising_threads = threads_rise p.thread_lines p.instruction_lines (as_long p sound) rising_jumps
 
   -- a jump stands before each fault line
-  pub jump_before : (n k : ℕ) → JumpAstrayOn p n → FaultAstrayOn p k → n ≤ k
+  pub jump_before : (n k : ℕ) → JumpFailsOn p n → FaultFailsOn p k → n ≤ k
   jump_before n k jump fault =
       thread_meets (λ a. All (λ b. a < b) p.fault_lines) (Leads n) p.thread_lines p.instruction_lines p.threads (as_long p sound) (rising_across by_threads p.fault_lines (rising_lines ls p read)) jump (λ ms is below leads.
       meets (λ a. All (λ b. a < b) p.fault_lines) (Fails (jump_within (length is)) n) ms is below leads (λ a i less f.
       meets (λ b. a < b) (Fails (all (condition_there p.threads)) k) p.fault_lines p.faults less fault (λ b cs above g. omega (arith, f.0, g.0))))
 
-  pub jumps_first : (n k : ℕ) → jump_failing p.instruction_lines p.threads ≡ Some n → JumpAstrayOn p k → n ≤ k
+  pub jumps_first : (n k : ℕ) → jump_failing p.instruction_lines p.threads ≡ Some n → JumpFailsOn p k → n ≤ k
   jumps_first n k e jump = jump_first p.thread_lines p.instruction_lines p.threads n k (as_long p sound) rising_jumps e jump
 
 -- a thread without instructions is one that fails the test that it has some

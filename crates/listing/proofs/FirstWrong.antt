@@ -10,6 +10,7 @@ use Rattle.listing.specs.Laws.{FirstBroken, formless, unranged, crowded, formles
 use Rattle.listing.specs.Limits.{all, condition_there}
 use Rattle.listing.specs.Reading.{reading, refusal, Progress, nothing, some, may_stand, room, with_line, held, worded, line, read_lines, first_failing, or_else, jump_failing, targeted, complete, filled, finished, after_lines}
 use Rattle.listing.specs.Words.{permitted, content_of, words, lines}
+use Rattle.listing.proofs.Astray.{first_astray}
 use Rattle.listing.proofs.Failing.{all_pass}
 use Rattle.listing.proofs.FirstFailing.{failing_there, failing_first, no_jump_astray, jump_there, sound, rising_threads, rising_faults, jump_before, jumps_first, empty_from, empty_to}
 use Rattle.listing.proofs.LinesHeld.{lined}
@@ -122,6 +123,7 @@ module _ (t : List ℕ) (p : Progress) (short : length t ≤ 4096) (read : read_
   targeted_wrong used both k None None j f = tt
   targeted_wrong used both k None (Some n) j f =
       astray short p n fine used both
+      (first_astray p n
       (record {
         there = inr (failing_there (all (condition_there p.threads)) p.fault_lines p.faults n f);
         earliest = λ m a.
@@ -129,11 +131,12 @@ module _ (t : List ℕ) (p : Progress) (short : length t ≤ 4096) (read : read_
               | inl jump ↦ absurd (no_jump_astray p.instruction_lines p.threads m j jump)
               | inr fault ↦ failing_first (all (condition_there p.threads)) p.fault_lines p.faults n m (rising_faults (lines t) p read) f fault
             ];
-      })
+      }))
   targeted_wrong used both k (Some n) fall j f =
       let there = jump_there p.instruction_lines p.threads n j in
       astray short p n fine used both
-      (record { there = inl there; earliest = λ m a. elim a [ inl jump ↦ jumps_first (lines t) p read n m j jump | inr fault ↦ jump_before (lines t) p read n m there fault ] })
+      (first_astray p n
+      (record { there = inl there; earliest = λ m a. elim a [ inl jump ↦ jumps_first (lines t) p read n m j jump | inr fault ↦ jump_before (lines t) p read n m there fault ] }))
 
   complete_wrong : all some p.threads ≡ true → (o : Option ℕ) → p.bound ≡ o → RefusedRightly t (complete p o)
   complete_wrong used None b = lacking short p fine used (and_left _ _ (no_thread p s b))

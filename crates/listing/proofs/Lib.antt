@@ -1,4 +1,5 @@
 pub mod Answered
+pub mod Astray
 pub mod ByWords
 pub mod Checking
 pub mod Counts
@@ -22,12 +23,14 @@ pub mod LineSteps
 pub mod LinesHeld
 pub mod NextLine
 pub mod NextWord
+pub mod Numbering
 pub mod Pairs
 pub mod Pieces
 pub mod PlainText
 pub mod Programs
 pub mod Promised
 pub mod ReadFits
+pub mod Reasons
 pub mod Recursive
 pub mod Results
 pub mod Rising
@@ -39,6 +42,7 @@ pub mod SpelledWords
 pub mod Stands
 pub mod Unbroken
 pub mod Within
+pub mod WithinLimits
 pub mod WordLines
 pub mod WordSpells
 pub mod WordsInTurn

@@ -4,14 +4,15 @@ use Rattle.std.proofs.lemmas.Bool.{and_left, both_ways, cond-true, cond-false, l
 use Rattle.listing.specs.declared.refusal.Reason.TheVariants.{Missing, TargetMissing}
 use Rattle.listing.specs.declared.refusal.Refusal.{Refusal}
 use Rattle.listing.specs.Code.{Code}
-use Rattle.listing.specs.Laws.{First, EmptyOn, AstrayOn, Wrong, too_long, broken_line, empty_thread, lacking, astray, FirstWrong, OneOrOther}
+use Rattle.listing.specs.Laws.{First, EmptyOn, Wrong, too_long, broken_line, empty_thread, lacking, astray, FirstWrong, OneOrOther}
 use Rattle.listing.specs.Limits.{all, condition_there}
 use Rattle.listing.specs.Reading.{Progress, nothing, refusal, some, line, read_lines, first_failing, or_else, jump_failing, target_failing, targeted, complete, filled, finished, after_lines, reading}
 use Rattle.listing.specs.Spelling.{Spells}
 use Rattle.listing.specs.Words.{lines}
+use Rattle.listing.proofs.Astray.{first_fails}
 use Rattle.listing.proofs.Exact.{exactly}
 use Rattle.listing.proofs.Failing.{none_fails}
-use Rattle.listing.proofs.FirstFailing.{first_found, jump_there, no_jump_astray, sound, rising_threads, rising_faults, jump_before, jumps_first, empty_from, empty_to}
+use Rattle.listing.proofs.FirstFailing.{FailsOn, first_found, jump_there, no_jump_astray, sound, rising_threads, rising_faults, jump_before, jumps_first, empty_from, empty_to}
 use Rattle.listing.proofs.FirstWrong.{what_is_wrong}
 use Rattle.listing.proofs.Results.{onto, went_on}
 use Rattle.listing.proofs.Sound.{no_thread}
@@ -47,7 +48,7 @@ module _ (ls : List (List ℕ)) (p : Progress) (read : read_lines nothing 1 ls �
         by None = refl
         by (Some k) = cond-false (some p.threads && some p.faults) _ _ lack
 
-    module _ (n : ℕ) (f : First (AstrayOn p) n) where
+    module _ (n : ℕ) (f : First (FailsOn p) n) where
       fault_found : jump_failing p.instruction_lines p.threads ≡ None → first_failing (all (condition_there p.threads)) p.fault_lines p.faults ≡ Some n
       fault_found none =
           first_found (all (condition_there p.threads)) p.fault_lines p.faults n (rising_faults ls p read)
@@ -90,7 +91,7 @@ wrong_refused t e (broken_line short before after bs p why are fine broken) =
     by_lines t short (Err (refusal why (length before + 1))) (ap (read_lines nothing 1) are ∙ refused_there before bs after nothing p 1 (refusal why (length before + 1)) fine.are here)
 wrong_refused t e (empty_thread short p n fine first) = by_lines t short (Ok p) fine.are ∙ empty_refused (lines t) p fine.are n first
 wrong_refused t e (lacking short p fine used lack) = by_lines t short (Ok p) fine.are ∙ lacking_refused (lines t) p fine.are used lack
-wrong_refused t e (astray short p n fine used both first) = by_lines t short (Ok p) fine.are ∙ astray_refused (lines t) p fine.are used n first both
+wrong_refused t e (astray short p n fine used both first) = by_lines t short (Ok p) fine.are ∙ astray_refused (lines t) p fine.are used n (first_fails p n first) both
 
 pub first_wrong : (t : List ℕ) → FirstWrong t (reading t)
 first_wrong t = record { only = what_is_wrong t; every = wrong_refused t }

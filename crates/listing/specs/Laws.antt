@@ -19,14 +19,15 @@
 --                      is lacking a thread or a fault line, or something in it is astray
 --   FirstWrong t r     the reading r of t is a refusal exactly when that is the first thing wrong with t
 --   OneOrOther t r     t is read or refused: it spells a program or something is wrong with it, never both, and never two of either
-use Rattle.std.specs.Prelude.{◌≡◌, ℕ, ◌+◌, ◌<◌, ◌≤◌, Bool, true, false, not, ◌&&◌, ◌||◌, ◌⊎◌, List, [], ◌∷◌, ◌++◌, length, AllPairs, Contains, Some, Ok, Err, Result, nat_lt}
+use Rattle.std.specs.Prelude.{◌≡◌, ℕ, ◌+◌, ◌<◌, ◌≤◌, Bool, true, false, not, ◌&&◌, ◌||◌, ◌⊎◌, List, [], ◌∷◌, ◌++◌, length, AllPairs, Any, Contains, Some, Ok, Err, Result, nat_lt}
 use Rattle.listing.specs.declared.refusal.Reason.{Reason}
 use Rattle.listing.specs.declared.refusal.Reason.TheVariants.{TextTooLong, ByteNotPermitted, NoForm, NumberOutOfRange, TooMany, Missing, TargetMissing, NoProgram, PlaceMissing, AlreadySo, RunListTooShort, NoPlacement, PlaceNotKept, TooFewRows, NoneEnough, BufferTooShort}
 use Rattle.listing.specs.declared.refusal.Refusal.{Refusal}
 use Rattle.listing.specs.declared.program.Program.{Program}
+use Rattle.listing.specs.Astray.{JumpsPast, NamesNone}
 use Rattle.listing.specs.Code.{Code, code_of}
 use Rattle.listing.specs.Forms.{Says, no_form, out_of_range, means, Line, bound_line, thread_line, instruction_line, fault_line, form}
-use Rattle.listing.specs.Limits.{all, jump_within, condition_there}
+use Rattle.listing.specs.Limits.{all}
 use Rattle.listing.specs.Reading.{reading, refusal, Progress, nothing, some, may_stand, room, read_lines}
 use Rattle.listing.specs.Spelling.{Pairwise, Spells, keeps_limits}
 use Rattle.listing.specs.Words.{permitted, content_of, words, lines}
@@ -149,11 +150,11 @@ EmptyOn p n = Somewhere (λ m is. (m ≡ n) × (is ≡ [])) p.thread_lines p.thr
 
 -- line n has a jump past its thread's length
 abbrev pub JumpAstrayOn : Progress → ℕ → Type 0
-JumpAstrayOn p n = Somewhere (λ ms is. Somewhere (λ m i. (m ≡ n) × (jump_within (length is) i ≡ false)) ms is) p.instruction_lines p.threads
+JumpAstrayOn p n = Somewhere (λ ms is. Somewhere (λ m i. (m ≡ n) × JumpsPast (length is) i) ms is) p.instruction_lines p.threads
 
 -- line n has a condition on a thread that is not there, or on a place past its length
 abbrev pub FaultAstrayOn : Progress → ℕ → Type 0
-FaultAstrayOn p n = Somewhere (λ m cs. (m ≡ n) × (all (condition_there p.threads) cs ≡ false)) p.fault_lines p.faults
+FaultAstrayOn p n = Somewhere (λ m cs. (m ≡ n) × Any (NamesNone p.threads) cs) p.fault_lines p.faults
 
 abbrev pub AstrayOn : Progress → ℕ → Type 0
 AstrayOn p n = JumpAstrayOn p n ⊎ FaultAstrayOn p n

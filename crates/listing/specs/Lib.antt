@@ -1,3 +1,4 @@
+pub mod Astray
 pub mod Code
 pub mod Cuts
 pub mod Drafts
@@ -7,10 +8,12 @@ pub mod Laws
 pub mod Limits
 pub mod Lines
 pub mod Names
+pub mod Numbering
 pub mod Reading
 pub mod Reasons
 pub mod Spelling
 pub mod Taking
 pub mod Values
+pub mod WithinLimits
 pub mod Words
 pub mod Written
