@@ -1,22 +1,29 @@
 -- A refusal names the first thing wrong with a text. Assumes nothing.
-use Rattle.std.proofs.Common.{◌≡◌, ℕ, ◌+◌, ◌≤◌, true, false, not, ◌&&◌, leb, List, [], ◌∷◌, ◌++◌, length, Some, None, Ok, Err, Option, Result, sym, refl, ap, ◌∙◌, subst, inl, inr, arith}
-use Rattle.std.proofs.lemmas.Bool.{and_left, not_from_true, not_from_false, or_left, or_right, or_from, leb-true, leb-false, cond_both}
+use Rattle.std.proofs.Common.{◌≡◌, ℕ, ◌+◌, ◌≤◌, true, ◌&&◌, leb, List, [], ◌∷◌, ◌++◌, length, Some, None, Ok, Err, Option, Result, sym, refl, ap, ◌∙◌, subst, inl, inr, arith}
+use Rattle.std.proofs.lemmas.Bool.{and_left, leb-true, leb-false, cond_both}
 use Rattle.listing.specs.declared.refusal.Reason.{Reason}
 use Rattle.listing.specs.declared.refusal.Reason.TheVariants.{ByteNotPermitted, NoForm, NumberOutOfRange, TooMany}
 use Rattle.listing.specs.declared.refusal.Refusal.{Refusal}
 use Rattle.listing.specs.Code.{Code}
 use Rattle.listing.specs.Forms.{Says, no_form, out_of_range, means, Line, form}
-use Rattle.listing.specs.Laws.{FirstBroken, formless, unranged, crowded, formless_words, unranged_words, crowded_words, Fine, Wrong, too_long, broken_line, empty_thread, lacking, astray}
+use Rattle.listing.specs.Alphabet.{Foreign}
+use Rattle.listing.specs.Laws.{FirstBroken, Fine, Wrong, too_long, broken_line, empty_thread, lacking, astray}
+use Rattle.listing.specs.LineForms.{HasForm, InRange}
 use Rattle.listing.specs.Limits.{all, condition_there}
 use Rattle.listing.specs.Reading.{reading, refusal, Progress, nothing, some, may_stand, room, with_line, held, worded, line, read_lines, first_failing, or_else, jump_failing, targeted, complete, filled, finished, after_lines}
 use Rattle.listing.specs.Words.{permitted, content_of, words, lines}
 use Rattle.listing.proofs.Astray.{first_astray}
 use Rattle.listing.proofs.Failing.{all_pass}
 use Rattle.listing.proofs.FirstFailing.{failing_there, failing_first, no_jump_astray, jump_there, sound, rising_threads, rising_faults, jump_before, jumps_first, empty_from, empty_to}
+use Rattle.listing.proofs.ForeignTold.{foreign_told}
+use Rattle.listing.proofs.FormSpells.{form_spelled}
+use Rattle.listing.proofs.FormsJudged.{form_judged}
 use Rattle.listing.proofs.LinesHeld.{lined}
+use Rattle.listing.proofs.OrderTold.{order_told, it_may}
 use Rattle.listing.proofs.Results.{refused, onto}
 use Rattle.listing.proofs.Sound.{Sound, no_thread}
-use Rattle.listing.proofs.Unbroken.{unbroken}
+use Rattle.listing.proofs.Telling.{Tells, formless, unranged, meant}
+use Rattle.listing.proofs.Unbroken.{not_formless, unbroken}
 
 abbrev RefusedRightly : List ℕ → Result Code Refusal → Type 0
 RefusedRightly t (Ok c) = Unit {0}
@@ -25,43 +32,32 @@ RefusedRightly t (Err e) = Wrong t e
 abbrev LineBreaks : Progress → ℕ → List ℕ → Refusal → Type 0
 LineBreaks p n bs e = (why : Reason) × ((e ≡ refusal why n) × FirstBroken why p bs)
 
--- what a refusal of a line's words says, for a conclusion W
-held_breaks : {W : Type 0} (p : Progress) (n : ℕ) (s : Says Line) (e : Refusal) → held p n s ≡ Err e
-    → (e ≡ refusal NoForm n → formless_words s ≡ true → W)
-    → (e ≡ refusal NumberOutOfRange n → formless_words s ≡ false → unranged_words s ≡ true → W)
-    → (e ≡ refusal TooMany n → formless_words s ≡ false → unranged_words s ≡ false → crowded_words p s ≡ true → W) → W
-held_breaks p n no_form e h a b c = a (cc) refl
-held_breaks p n out_of_range e h a b c = b (cc) refl refl
-held_breaks p n (means l) e h a b c =
-    refused (room p l) (Ok (with_line p n l)) (refusal TooMany n) e h
-    (λ fits k. cc)
-    (λ full is. c is refl refl (not_from_false (room p l) full))
+-- a line whose bytes are permitted
+module _ (p : Progress) (n : ℕ) (bs : List ℕ) (e : Refusal) (ours : Foreign bs → ⊥) where
+  held_breaks : (w : List ℕ) (ws : List (List ℕ)) (s : Says Line) → words (content_of bs) ≡ w ∷ ws → form w ws ≡ s → Tells (HasForm (w ∷ ws)) (InRange (w ∷ ws)) s → may_stand p w ≡ true
+      → held p n s ≡ Err e → LineBreaks p n bs e
+  held_breaks w ws no_form are is (formless none) stands h = (NoForm, (cc, (ours, rw are (inl none))))
+  held_breaks w ws out_of_range are is (unranged has out) stands h =
+      let fine = not_formless p w ws has stands in
+      (NumberOutOfRange, (cc, (ours, rw are (fine, out))))
+  held_breaks w ws (means l) are is (meant has ranged) stands h =
+      let fine = not_formless p w ws has stands in
+      refused (room p l) (Ok (with_line p n l)) (refusal TooMany n) e h
+      (λ fits k. cc)
+      (λ full why. (TooMany, (why, (ours, rw are (fine, (λ out. out ranged, (l, (form_spelled w ws l is, ((order_told p).too_much l).0 full))))))))
 
-worded_breaks : {W : Type 0} (p : Progress) (n : ℕ) (ws : List (List ℕ)) (e : Refusal) → worded p n ws ≡ Err e
-    → (e ≡ refusal NoForm n → formless p ws ≡ true → W)
-    → (e ≡ refusal NumberOutOfRange n → formless p ws ≡ false → unranged ws ≡ true → W)
-    → (e ≡ refusal TooMany n → formless p ws ≡ false → unranged ws ≡ false → crowded p ws ≡ true → W) → W
-worded_breaks p n [] e h a b c = cc
-worded_breaks p n (w ∷ ws) e h a b c =
-    refused (may_stand p w) (held p n (form w ws)) (refusal NoForm n) e h
-    (λ stands k.
-    let here : not (may_stand p w) ≡ false = not_from_true (may_stand p w) stands in
-    held_breaks p n (form w ws) e k
-    (λ is f. a is (or_right _ _ f))
-    (λ is f u. b is (or_from _ _ here f) u)
-    (λ is f u r. c is (or_from _ _ here f) u r))
-    (λ astray is. a is (or_left _ _ (not_from_false (may_stand p w) astray)))
+  worded_breaks : (ws : List (List ℕ)) → words (content_of bs) ≡ ws → worded p n ws ≡ Err e → LineBreaks p n bs e
+  worded_breaks [] are h = cc
+  worded_breaks (w ∷ ws) are h =
+      refused (may_stand p w) (held p n (form w ws)) (refusal NoForm n) e h
+      (λ stands k. held_breaks w ws (form w ws) are refl (form_judged w ws) stands k)
+      (λ astray is. (NoForm, (is, (ours, rw are (inr (λ may. let stands = it_may p w may in cc))))))
 
 line_breaks : (p : Progress) (n : ℕ) (bs : List ℕ) (e : Refusal) → line p n bs ≡ Err e → LineBreaks p n bs e
 line_breaks p n bs e h =
     refused (all permitted (content_of bs)) (worded p n (words (content_of bs))) (refusal ByteNotPermitted n) e h
-    (λ clean k.
-    let ours = not_from_true (all permitted (content_of bs)) clean in
-    worded_breaks p n (words (content_of bs)) e k
-    (λ is f. (NoForm, (is, (ours, f))))
-    (λ is f u. (NumberOutOfRange, (is, (ours, (f, u)))))
-    (λ is f u r. (TooMany, (is, (ours, (f, (u, r)))))))
-    (λ odd is. (ByteNotPermitted, (is, not_from_false (all permitted (content_of bs)) odd)))
+    (λ clean k. worded_breaks p n bs e (λ odd. let other = (foreign_told bs).1 odd in cc) (words (content_of bs)) refl k)
+    (λ odd is. (ByteNotPermitted, (is, (foreign_told bs).0 odd)))
 
 record Broken (p : Progress) (n : ℕ) (ls : List (List ℕ)) (e : Refusal) : Type 0 where
   before : List (List ℕ)

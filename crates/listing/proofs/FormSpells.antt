@@ -1,6 +1,4 @@
 -- A line says what its words spell, and nothing else. Assumes nothing.
---   line_items l                 the words of a line
---   line_ranges l                its numbers are in range, and a fault line has a condition
 --   SpellsOut items fits ws v   the words ws spell the items of v, which fits
 use Rattle.std.proofs.Common.{◌≡◌, ℕ, zero, suc, ◌≤◌, Bool, true, false, ◌&&◌, leb, List, [], ◌∷◌, length, codes, sym, refl, ap, subst, ⊎_elim, arith}
 use Rattle.std.proofs.lemmas.Bool.{and_parts, and_from, cases_Bool, le-leb}
@@ -10,25 +8,14 @@ use Rattle.listing.specs.declared.code.Condition.TheVariants as condition
 use Rattle.listing.specs.declared.code.Instruction.{Instruction}
 use Rattle.listing.specs.declared.code.Instruction.TheVariants as instructions
 use Rattle.listing.specs.Forms.{Says, no_form, means, apply, rest, instruction, more, conditions, fault, Line, bound_line, thread_line, instruction_line, fault_line, form}
-use Rattle.listing.specs.Limits.{all, between}
+use Rattle.listing.specs.LineForms.{line_items, line_ranges}
+use Rattle.listing.specs.Limits.{all}
 use Rattle.listing.specs.Names.{same_word, variable_word, register_word}
-use Rattle.listing.specs.Spelling.{Item, name, number, Spelled, Pairwise, instruction_items, condition_items, fault_row}
+use Rattle.listing.specs.Spelling.{Item, name, number, Spelled, Pairwise, instruction_items, condition_items}
 use Rattle.listing.specs.Values.{operand_fits, instruction_fits, condition_fits}
 use Rattle.listing.proofs.FormRows.{rest_shorter}
 use Rattle.listing.proofs.WordSpells.{Only, only_formless, only_meant, only_map, only_apply, same_word_eq, variable_reads, register_reads, number_reads, upto_reads, operand_reads}
 use Rattle.listing.proofs.WordsInTurn.{one_only, one_every, two_only, two_every, three_only, three_every, four_only, four_every, ended_only, ended_every, word_only, whole_only}
-
-abbrev pub line_items : Line → List Item
-line_items (bound_line k) = name (codes "bound") ∷ number k ∷ []
-line_items thread_line = name (codes "thread") ∷ []
-line_items (instruction_line i) = instruction_items i
-line_items (fault_line cs) = fault_row cs
-
-abbrev pub line_ranges : Line → Bool
-line_ranges (bound_line k) = between 1 4 k
-line_ranges thread_line = true
-line_ranges (instruction_line i) = instruction_fits i
-line_ranges (fault_line cs) = leb 1 (length cs) && all condition_fits cs
 
 abbrev SpellsOut : {V : Type 0} → (V → List Item) → (V → Bool) → List (List ℕ) → V → Type 0
 SpellsOut items fits ws v = Pairwise Spelled (items v) ws × (fits v ≡ true)

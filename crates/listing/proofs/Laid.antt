@@ -91,13 +91,13 @@ row_content : {ws : List (List ℕ)} {bs : List ℕ} → Row ws bs → Shows ws 
 row_content (plain {ws} {bs} s) = subst (Shows ws) (sym (upto_whole comments bs (no_comment bs (shows_permitted s)))) s
 row_content (commented {ws} {bs} s c h) = subst (Shows ws) (sym (upto_then comments bs 35 c (no_comment bs (shows_permitted s)) refl)) s
 
-row_words : {ws : List (List ℕ)} {bs : List ℕ} → Row ws bs → words (content_of bs) ≡ ws
+pub row_words : {ws : List (List ℕ)} {bs : List ℕ} → Row ws bs → words (content_of bs) ≡ ws
 row_words r = shows_words (row_content r)
 
-row_permitted : {ws : List (List ℕ)} {bs : List ℕ} → Row ws bs → all permitted (content_of bs) ≡ true
+pub row_permitted : {ws : List (List ℕ)} {bs : List ℕ} → Row ws bs → all permitted (content_of bs) ≡ true
 row_permitted {bs} r = all_from_each permitted (content_of bs) (shows_permitted (row_content r))
 
-each_within : (bs : List ℕ) → WithinLine bs → All (λ b. ends b ≡ false) bs
+pub each_within : (bs : List ℕ) → WithinLine bs → All (λ b. ends b ≡ false) bs
 each_within [] h = tt
 each_within (b ∷ bs) h = (h.0, each_within bs h.1)
 
@@ -156,7 +156,7 @@ split (b ∷ bs) h =
     (split bs h.1))
     (cases_Bool (comments b))
 
-row_laid : (bs : List ℕ) → All (λ b. ends b ≡ false) bs → all permitted (content_of bs) ≡ true → Row (words (content_of bs)) bs
+pub row_laid : (bs : List ℕ) → All (λ b. ends b ≡ false) bs → all permitted (content_of bs) ≡ true → Row (words (content_of bs)) bs
 row_laid bs h k =
     let shown = shown_from [] (content_of bs) tt (each permitted (content_of bs) k) in
     ⊎_elim

@@ -24,6 +24,12 @@ module _ {X Y : Type 0} (R : X → Y → Type 0) where
   pairwise_map f (x ∷ xs) h = (h.0, pairwise_map f xs h.1)
 
 -- lists that are as long as others, one by one
+pub pairwise_weaker : {X Y : Type 0} (R S : X → Y → Type 0) → ((x : X) (y : Y) → R x y → S x y) → (xs : List X) (ys : List Y) → Pairwise R xs ys → Pairwise S xs ys
+pairwise_weaker R S weaker [] [] h = tt
+pairwise_weaker R S weaker [] (y ∷ ys) h = absurd h
+pairwise_weaker R S weaker (x ∷ xs) [] h = absurd h
+pairwise_weaker R S weaker (x ∷ xs) (y ∷ ys) h = (weaker x y h.0, pairwise_weaker R S weaker xs ys h.1)
+
 pub pairwise_lengths : {X Y : Type 0} (xs : List (List X)) (ys : List (List Y)) → map length xs ≡ map length ys → Pairwise AsLong xs ys
 pairwise_lengths [] [] h = tt
 pairwise_lengths [] (y ∷ ys) h = cc

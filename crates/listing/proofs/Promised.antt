@@ -3,7 +3,7 @@ use Rattle.std.proofs.Common.{◌≡◌, ℕ, ◌<◌, ◌≤◌, true, List, le
 use Rattle.std.specs.Result.{IfErr}
 use Rattle.listing.specs.declared.program.Program.{Program}
 use Rattle.listing.specs.declared.refusal.Reason.{Reason}
-use Rattle.listing.specs.declared.refusal.Reason.TheVariants.{TextTooLong, ByteNotPermitted, NoForm, NumberOutOfRange, TooMany, Missing, TargetMissing, NoProgram, PlaceMissing, AlreadySo, RunListTooShort, NoPlacement, PlaceNotKept, TooFewRows, NoneEnough, BufferTooShort}
+use Rattle.listing.specs.declared.refusal.Reason.TheVariants.{TextTooLong, ByteNotPermitted, NoForm, NumberOutOfRange, TooMany, Missing, TargetMissing}
 use Rattle.listing.specs.declared.refusal.Refusal.{Refusal}
 use Rattle.listing.specs.Code.{code_of}
 use Rattle.listing.specs.Laws.{Exactly, FirstWrong, FirstBroken, Wrong}
@@ -19,15 +19,7 @@ broken NumberOutOfRange p bs h = refl
 broken TooMany p bs h = refl
 broken Missing p bs h = refl
 broken TargetMissing p bs h = refl
-broken NoProgram p bs h = absurd h
-broken PlaceMissing p bs h = absurd h
-broken AlreadySo p bs h = absurd h
-broken RunListTooShort p bs h = absurd h
-broken NoPlacement p bs h = absurd h
-broken PlaceNotKept p bs h = absurd h
-broken TooFewRows p bs h = absurd h
-broken NoneEnough p bs h = absurd h
-broken BufferTooShort p bs h = absurd h
+broken _ p bs h = absurd h
 
 wrong_reason : (t : List ℕ) (e : Refusal) → Wrong t e → of_reading e.reason ≡ true
 wrong_reason t e (too_long far) = refl

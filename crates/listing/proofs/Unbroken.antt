@@ -1,66 +1,96 @@
 -- A line that breaks a rule is refused for it, so no line that has been read breaks one. Assumes nothing.
-use Rattle.std.proofs.Common.{◌≡◌, ℕ, ◌+◌, Bool, true, false, not, ◌||◌, List, [], ◌∷◌, ◌++◌, length, Ok, Err, sym, refl, ◌∙◌, subst, arith}
-use Rattle.std.proofs.lemmas.Bool.{cond-true, cond-false, not-true, not-false}
+use Rattle.std.proofs.Common.{◌≡◌, ℕ, ◌+◌, Bool, true, false, List, [], ◌∷◌, ◌++◌, length, Ok, Err, inl, inr, sym, refl, ◌∙◌, subst, ⊎_elim, arith}
+use Rattle.std.proofs.lemmas.Bool.{cases_Bool, cond-true, cond-false}
+use Rattle.listing.specs.declared.code.Instruction.{Instruction}
+use Rattle.listing.specs.declared.code.Instruction.TheVariants as instructions
 use Rattle.listing.specs.declared.refusal.Reason.{Reason}
-use Rattle.listing.specs.declared.refusal.Reason.TheVariants.{TextTooLong, ByteNotPermitted, NoForm, NumberOutOfRange, TooMany, Missing, TargetMissing, NoProgram, PlaceMissing, AlreadySo, RunListTooShort, NoPlacement, PlaceNotKept, TooFewRows, NoneEnough, BufferTooShort}
-use Rattle.listing.specs.Forms.{Says, no_form, out_of_range, means, Line, form}
-use Rattle.listing.specs.Laws.{foreign, formless_words, unranged_words, crowded_words, formless, unranged, crowded, FirstBroken}
+use Rattle.listing.specs.declared.refusal.Reason.TheVariants.{ByteNotPermitted, NoForm, NumberOutOfRange, TooMany}
+use Rattle.listing.specs.Alphabet.{Foreign}
+use Rattle.listing.specs.Forms.{Says, Line, bound_line, thread_line, instruction_line, fault_line, form}
+use Rattle.listing.specs.Laws.{Formless, Unranged, Crowded, FirstBroken}
+use Rattle.listing.specs.LineForms.{HasForm, InRange, SayLine}
 use Rattle.listing.specs.Limits.{all}
-use Rattle.listing.specs.Reading.{Progress, nothing, refusal, may_stand, room, standing, worded, line, read_lines}
+use Rattle.listing.specs.Reading.{Progress, nothing, refusal, may_stand, room, held, standing, worded, line, read_lines}
+use Rattle.listing.specs.Spelling.{Spelled, Pairwise, instruction_items}
 use Rattle.listing.specs.Words.{permitted, content_of, words}
+use Rattle.listing.proofs.ForeignTold.{foreign_told}
+use Rattle.listing.proofs.FormSpells.{spelled_form}
+use Rattle.listing.proofs.FormsJudged.{form_judged}
+use Rattle.listing.proofs.OrderTold.{it_may, order_told}
 use Rattle.listing.proofs.Results.{went_on}
+use Rattle.listing.proofs.Telling.{Tells, formless, unranged, meant}
+use Rattle.listing.proofs.WordsTold.{none_foreign}
+
+module _ (p : Progress) (w : List ℕ) (ws : List (List ℕ)) where
+  -- words that have a form and may stand there, and the converse
+  pub not_formless : HasForm (w ∷ ws) → may_stand p w ≡ true → Formless p (w ∷ ws) → ⊥
+  not_formless has stands h = ⊎_elim (λ none. none has) (λ astray. astray (((order_told p).stands w ws has).0 stands)) h
+
+  pub standing_there : (Formless p (w ∷ ws) → ⊥) → may_stand p w ≡ true
+  standing_there h =
+      ⊎_elim (λ stands. stands) (λ astray. absurd (h (inr (λ may. let stands = it_may p w may in cc)))) (cases_Bool (may_stand p w))
+
+  module _ (n : ℕ) where
+    formless_refused : Formless p (w ∷ ws) → worded p n (w ∷ ws) ≡ Err (refusal NoForm n)
+    formless_refused h = by (may_stand p w) (form w ws) refl (form_judged w ws)
+      where
+        by : (b : Bool) (s : Says Line) → may_stand p w ≡ b → Tells (HasForm (w ∷ ws)) (InRange (w ∷ ws)) s → standing p n b s ≡ Err (refusal NoForm n)
+        by false s stands t = refl
+        by true s stands (formless none) = refl
+        by true s stands (unranged has out) = absurd (not_formless has stands h)
+        by true s stands (meant has ranged) = absurd (not_formless has stands h)
+
+    unranged_refused : (Formless p (w ∷ ws) → ⊥) → Unranged (w ∷ ws) → worded p n (w ∷ ws) ≡ Err (refusal NumberOutOfRange n)
+    unranged_refused h out = rw (standing_there h) (by (form_judged w ws))
+      where
+        by : {s : Says Line} → Tells (HasForm (w ∷ ws)) (InRange (w ∷ ws)) s → held p n s ≡ Err (refusal NumberOutOfRange n)
+        by (formless none) = absurd (h (inl none))
+        by (unranged has _) = refl
+        by (meant has ranged) = absurd (out ranged)
+
+    crowded_refused : (Formless p (w ∷ ws) → ⊥) → Crowded p (w ∷ ws) → worded p n (w ∷ ws) ≡ Err (refusal TooMany n)
+    crowded_refused h full =
+        rw (standing_there h, spelled_form full.0 w ws full.1.0.1 full.1.0.0) (cond-false (room p full.0) _ _ (((order_told p).too_much full.0).1 full.1.1))
 
 module _ (p : Progress) (n : ℕ) where
-  formless_refused : (ws : List (List ℕ)) → formless p ws ≡ true → worded p n ws ≡ Err (refusal NoForm n)
-  formless_refused [] h = cc
-  formless_refused (w ∷ ws) h = by (may_stand p w) (form w ws) h
-    where
-      by : (b : Bool) (s : Says Line) → (not b || formless_words s) ≡ true → standing p n b s ≡ Err (refusal NoForm n)
-      by false s h = refl
-      by true no_form h = refl
-      by true out_of_range h = cc
-      by true (means l) h = cc
+  clean : (bs : List ℕ) → (Foreign bs → ⊥) → line p n bs ≡ worded p n (words (content_of bs))
+  clean bs h = cond-true (all permitted (content_of bs)) _ _ (none_foreign bs h)
 
-  unranged_refused : (ws : List (List ℕ)) → formless p ws ≡ false → unranged ws ≡ true → worded p n ws ≡ Err (refusal NumberOutOfRange n)
-  unranged_refused [] h k = cc
-  unranged_refused (w ∷ ws) h k = by (may_stand p w) (form w ws) h k
-    where
-      by : (b : Bool) (s : Says Line) → (not b || formless_words s) ≡ false → unranged_words s ≡ true → standing p n b s ≡ Err (refusal NumberOutOfRange n)
-      by false s h k = cc
-      by true no_form h k = cc
-      by true out_of_range h k = refl
-      by true (means l) h k = cc
+  words_formless : (ws : List (List ℕ)) → Formless p ws → worded p n ws ≡ Err (refusal NoForm n)
+  words_formless [] h = absurd h
+  words_formless (w ∷ ws) h = formless_refused p w ws n h
 
-  crowded_refused : (ws : List (List ℕ)) → formless p ws ≡ false → crowded p ws ≡ true → worded p n ws ≡ Err (refusal TooMany n)
-  crowded_refused [] h k = cc
-  crowded_refused (w ∷ ws) h k = by (may_stand p w) (form w ws) h k
-    where
-      by : (b : Bool) (s : Says Line) → (not b || formless_words s) ≡ false → crowded_words p s ≡ true → standing p n b s ≡ Err (refusal TooMany n)
-      by false s h k = cc
-      by true no_form h k = cc
-      by true out_of_range h k = cc
-      by true (means l) h k = cond-false (room p l) _ _ (not-true (room p l) k)
+  words_unranged : (ws : List (List ℕ)) → (Formless p ws → ⊥) → Unranged ws → worded p n ws ≡ Err (refusal NumberOutOfRange n)
+  words_unranged [] h k = absurd k
+  words_unranged (w ∷ ws) h k = unranged_refused p w ws n h k
 
-  clean : (bs : List ℕ) → foreign bs ≡ false → line p n bs ≡ worded p n (words (content_of bs))
-  clean bs h = cond-true (all permitted (content_of bs)) _ _ (not-false _ h)
+  no_words : (l : Line) → SayLine [] l → ⊥
+  no_words (bound_line k) h = h.0
+  no_words thread_line h = h.0
+  no_words (instruction_line i) h = by i h.0
+    where
+      by : (i : Instruction ℕ) → Pairwise Spelled (instruction_items i) [] → ⊥
+      by (instructions.Store v e) h = h
+      by (instructions.Load r v) h = h
+      by (instructions.Set r e) h = h
+      by (instructions.Add r e) h = h
+      by (instructions.Cas r v old new) h = h
+      by instructions.Fence h = h
+      by (instructions.Jump m) h = h
+      by (instructions.JumpIfEqual r e m) h = h
+      by (instructions.JumpUnlessEqual r e m) h = h
+  no_words (fault_line cs) h = h.0
+
+  words_crowded : (ws : List (List ℕ)) → (Formless p ws → ⊥) → Crowded p ws → worded p n ws ≡ Err (refusal TooMany n)
+  words_crowded [] h k = absurd (no_words k.0 k.1.0)
+  words_crowded (w ∷ ws) h k = crowded_refused p w ws n h k
 
   pub broken_refused : (why : Reason) (bs : List ℕ) → FirstBroken why p bs → line p n bs ≡ Err (refusal why n)
-  broken_refused TextTooLong bs h = absurd h
-  broken_refused ByteNotPermitted bs h = cond-false (all permitted (content_of bs)) _ _ (not-true _ h)
-  broken_refused NoForm bs h = clean bs h.0 ∙ formless_refused (words (content_of bs)) h.1
-  broken_refused NumberOutOfRange bs h = clean bs h.0 ∙ unranged_refused (words (content_of bs)) h.1.0 h.1.1
-  broken_refused TooMany bs h = clean bs h.0 ∙ crowded_refused (words (content_of bs)) h.1.0 h.1.1.1
-  broken_refused Missing bs h = absurd h
-  broken_refused TargetMissing bs h = absurd h
-  broken_refused NoProgram bs h = absurd h
-  broken_refused PlaceMissing bs h = absurd h
-  broken_refused AlreadySo bs h = absurd h
-  broken_refused RunListTooShort bs h = absurd h
-  broken_refused NoPlacement bs h = absurd h
-  broken_refused PlaceNotKept bs h = absurd h
-  broken_refused TooFewRows bs h = absurd h
-  broken_refused NoneEnough bs h = absurd h
-  broken_refused BufferTooShort bs h = absurd h
+  broken_refused ByteNotPermitted bs h = cond-false (all permitted (content_of bs)) _ _ ((foreign_told bs).1 h)
+  broken_refused NoForm bs h = clean bs h.0 ∙ words_formless (words (content_of bs)) h.1
+  broken_refused NumberOutOfRange bs h = clean bs h.0 ∙ words_unranged (words (content_of bs)) h.1.0 h.1.1
+  broken_refused TooMany bs h = clean bs h.0 ∙ words_crowded (words (content_of bs)) h.1.0 h.1.1.1
+  broken_refused _ bs h = absurd h
 
 -- a line that has been read, after what the lines before it hold
 read_there : (before : List (List ℕ)) (bs : List ℕ) (after : List (List ℕ)) (p q r : Progress) (n : ℕ) → read_lines p n (before ++ bs ∷ after) ≡ Ok q → read_lines p n before ≡ Ok r

@@ -116,7 +116,7 @@ digits_given : (b : Bool) (m n : ℕ) → cond b (Some m) None ≡ Some n → (b
 digits_given true m n h = (refl, cc)
 digits_given false m n h = cc
 
-value_written : (w : List ℕ) (n : ℕ) → value_of w ≡ Some n → Writes n w
+pub value_written : (w : List ℕ) (n : ℕ) → value_of w ≡ Some n → Writes n w
 value_written [] n h = cc
 value_written (d ∷ []) n h =
     let given = digits_given (is_digit d) (d - 48) n h in
@@ -132,7 +132,7 @@ value_written (t ∷ d ∷ []) n h =
     (subst (λ m. Writes m ((48 + (t - 48)) ∷ (48 + (d - 48)) ∷ [])) given.1 (two_digits (t - 48) (d - 48) tens.0 last.0)))
 value_written (t ∷ d ∷ e ∷ w) n h = cc
 
-written_value : {n : ℕ} {w : List ℕ} → Writes n w → (all is_digit w ≡ true) × (value_of w ≡ Some n)
+pub written_value : {n : ℕ} {w : List ℕ} → Writes n w → (all is_digit w ≡ true) × (value_of w ≡ Some n)
 written_value (one_digit d h) =
     let is = digit_from d h in
     let back : 48 + d - 48 ≡ d = omega arith in

@@ -8,13 +8,13 @@ use Rattle.listing.specs.declared.code.Instruction.{Instruction}
 use Rattle.listing.specs.Code.{Code}
 use Rattle.listing.specs.Forms.{Line, bound_line, thread_line, instruction_line, fault_line}
 use Rattle.listing.proofs.Failing.{jumps_there}
+use Rattle.listing.specs.LineForms.{line_items}
 use Rattle.listing.specs.Limits.{all, between, bound_fits, together, condition_there, thread_keeps, fault_keeps, fault_fits, within_limits, thread_fits}
 use Rattle.listing.specs.Reading.{Progress, nothing, some, grown, with_line, first_failing, jump_failing, target_failing, targeted, complete, filled, finished}
 use Rattle.listing.specs.Spelling.{Item, Spelled, Pairwise, instruction_items, thread_rows, fault_row, rows, keeps_limits}
 use Rattle.listing.specs.Values.{instruction_fits, condition_fits}
 use Rattle.listing.proofs.Counts.{none_there, some_between}
 use Rattle.listing.proofs.Failing.{or_else_none, all_pass, all_jumps_pass}
-use Rattle.listing.proofs.FormSpells.{line_items}
 use Rattle.listing.proofs.Kept.{all_join}
 use Rattle.listing.proofs.LineSteps.{stands, Taken, read_keeps}
 use Rattle.listing.proofs.Pairs.{pairwise_append}

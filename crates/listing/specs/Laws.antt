@@ -2,8 +2,7 @@
 --   Exactly t r        the reading r of t is a program exactly when t has at most 4,096 bytes and spells it
 --   InReach            each program within the limits is what some text of bytes (are_bytes) reads as; and ProgramsInReach, of programs that exist
 --   KnownByLists       programs with the same lists are the same
---   foreign, formless, unranged, crowded    a line breaks the rule on bytes, on forms, on ranges, on counts; formless_words, unranged_words,
---                      crowded_words: by what its words say
+--   Formless, Unranged, Crowded    a line breaks the rule on forms, on ranges, on counts; Foreign, of Alphabet: on bytes
 --   FirstBroken why p bs   the line bs, after what p holds, breaks that rule and none that comes earlier in the order
 --   words_say ws       what the words of a line say
 --   SaysOn ls n l      line n of ls says l
@@ -19,18 +18,21 @@
 --                      is lacking a thread or a fault line, or something in it is astray
 --   FirstWrong t r     the reading r of t is a refusal exactly when that is the first thing wrong with t
 --   OneOrOther t r     t is read or refused: it spells a program or something is wrong with it, never both, and never two of either
-use Rattle.std.specs.Prelude.{◌≡◌, ℕ, ◌+◌, ◌<◌, ◌≤◌, Bool, true, false, not, ◌&&◌, ◌||◌, ◌⊎◌, List, [], ◌∷◌, ◌++◌, length, AllPairs, Any, Contains, Some, Ok, Err, Result, nat_lt}
+use Rattle.std.specs.Prelude.{◌≡◌, ℕ, ◌+◌, ◌<◌, ◌≤◌, Bool, true, false, ◌&&◌, ◌⊎◌, List, [], ◌∷◌, ◌++◌, length, AllPairs, Any, Contains, Some, Ok, Err, Result, nat_lt}
 use Rattle.listing.specs.declared.refusal.Reason.{Reason}
-use Rattle.listing.specs.declared.refusal.Reason.TheVariants.{TextTooLong, ByteNotPermitted, NoForm, NumberOutOfRange, TooMany, Missing, TargetMissing, NoProgram, PlaceMissing, AlreadySo, RunListTooShort, NoPlacement, PlaceNotKept, TooFewRows, NoneEnough, BufferTooShort}
+use Rattle.listing.specs.declared.refusal.Reason.TheVariants.{TextTooLong, ByteNotPermitted, NoForm, NumberOutOfRange, TooMany, Missing, TargetMissing}
 use Rattle.listing.specs.declared.refusal.Refusal.{Refusal}
 use Rattle.listing.specs.declared.program.Program.{Program}
+use Rattle.listing.specs.Alphabet.{Foreign}
 use Rattle.listing.specs.Astray.{JumpsPast, NamesNone}
 use Rattle.listing.specs.Code.{Code, code_of}
-use Rattle.listing.specs.Forms.{Says, no_form, out_of_range, means, Line, bound_line, thread_line, instruction_line, fault_line, form}
+use Rattle.listing.specs.Forms.{Says, no_form, means, Line, bound_line, thread_line, instruction_line, fault_line, form}
+use Rattle.listing.specs.LineForms.{HasForm, InRange, SayLine}
+use Rattle.listing.specs.LineOrder.{MayStand, IsTooMuch}
 use Rattle.listing.specs.Limits.{all}
-use Rattle.listing.specs.Reading.{reading, refusal, Progress, nothing, some, may_stand, room, read_lines}
+use Rattle.listing.specs.Reading.{reading, refusal, Progress, nothing, some, read_lines}
 use Rattle.listing.specs.Spelling.{Pairwise, Spells, keeps_limits}
-use Rattle.listing.specs.Words.{permitted, content_of, words, lines}
+use Rattle.listing.specs.Words.{content_of, words, lines}
 
 pub record Exactly (t : List ℕ) (r : Result Code Refusal) : Type 0 where
   pub only : (c : Code) → r ≡ Ok c → (length t ≤ 4096) × Spells t c
@@ -42,56 +44,34 @@ are_bytes t = all (λ b. nat_lt b 256) t
 abbrev pub InReach : Type 0
 InReach = (c : Code) → keeps_limits c ≡ true → (t : List ℕ) × ((are_bytes t ≡ true) × (reading t ≡ Ok c))
 
--- The rules of a line, each by itself: a line may break several.
-abbrev pub foreign : List ℕ → Bool
-foreign bs = not (all permitted (content_of bs))
+-- The rules of a line on forms, on ranges and on counts, each by itself: a line may break several, and a line without words breaks
+-- none. The rule on bytes is Foreign.
 
-abbrev pub formless_words : Says Line → Bool
-formless_words no_form = true
-formless_words out_of_range = false
-formless_words (means l) = false
+-- the words have no form, or a line that they begin may not stand there
+abbrev pub Formless : Progress → List (List ℕ) → Type 0
+Formless p [] = ⊥
+Formless p (w ∷ ws) = (HasForm (w ∷ ws) → ⊥) ⊎ (MayStand p w → ⊥)
 
-abbrev pub unranged_words : Says Line → Bool
-unranged_words no_form = false
-unranged_words out_of_range = true
-unranged_words (means l) = false
+-- a number among the words is out of its range
+abbrev pub Unranged : List (List ℕ) → Type 0
+Unranged [] = ⊥
+Unranged (w ∷ ws) = InRange (w ∷ ws) → ⊥
 
-abbrev pub crowded_words : Progress → Says Line → Bool
-crowded_words p no_form = false
-crowded_words p out_of_range = false
-crowded_words p (means l) = not (room p l)
-
-abbrev pub formless : Progress → List (List ℕ) → Bool
-formless p [] = false
-formless p (w ∷ ws) = not (may_stand p w) || formless_words (form w ws)
-
-abbrev pub unranged : List (List ℕ) → Bool
-unranged [] = false
-unranged (w ∷ ws) = unranged_words (form w ws)
-
-abbrev pub crowded : Progress → List (List ℕ) → Bool
-crowded p [] = false
-crowded p (w ∷ ws) = crowded_words p (form w ws)
+-- what the words add is one too many
+abbrev pub Crowded : Progress → List (List ℕ) → Type 0
+Crowded p ws = (l : Line) × (SayLine ws l × IsTooMuch p l)
 
 -- the line breaks this rule, and none that comes earlier in the order
 abbrev pub FirstBroken : Reason → Progress → List ℕ → Type 0
-FirstBroken TextTooLong p bs = ⊥
-FirstBroken ByteNotPermitted p bs = foreign bs ≡ true
-FirstBroken NoForm p bs = (foreign bs ≡ false) × (formless p (words (content_of bs)) ≡ true)
-FirstBroken NumberOutOfRange p bs = (foreign bs ≡ false) × ((formless p (words (content_of bs)) ≡ false) × (unranged (words (content_of bs)) ≡ true))
+FirstBroken ByteNotPermitted p bs = Foreign bs
+FirstBroken NoForm p bs = (Foreign bs → ⊥) × Formless p (words (content_of bs))
+FirstBroken NumberOutOfRange p bs =
+    (Foreign bs → ⊥) × ((Formless p (words (content_of bs)) → ⊥) × Unranged (words (content_of bs)))
 FirstBroken TooMany p bs =
-    (foreign bs ≡ false) × ((formless p (words (content_of bs)) ≡ false) × ((unranged (words (content_of bs)) ≡ false) × (crowded p (words (content_of bs)) ≡ true)))
-FirstBroken Missing p bs = ⊥
-FirstBroken TargetMissing p bs = ⊥
-FirstBroken NoProgram p bs = ⊥
-FirstBroken PlaceMissing p bs = ⊥
-FirstBroken AlreadySo p bs = ⊥
-FirstBroken RunListTooShort p bs = ⊥
-FirstBroken NoPlacement p bs = ⊥
-FirstBroken PlaceNotKept p bs = ⊥
-FirstBroken TooFewRows p bs = ⊥
-FirstBroken NoneEnough p bs = ⊥
-FirstBroken BufferTooShort p bs = ⊥
+    (Foreign bs → ⊥)
+    × ((Formless p (words (content_of bs)) → ⊥)
+    × ((Unranged (words (content_of bs)) → ⊥) × Crowded p (words (content_of bs))))
+FirstBroken _ p bs = ⊥
 
 -- what the words of a line say
 abbrev pub words_say : List (List ℕ) → Says Line

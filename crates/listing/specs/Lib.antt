@@ -1,10 +1,13 @@
+pub mod Alphabet
 pub mod Astray
 pub mod Code
 pub mod Cuts
 pub mod Drafts
-pub mod Examples
 pub mod Forms
 pub mod Laws
+pub mod LineForms
+pub mod LineLaws
+pub mod LineOrder
 pub mod Limits
 pub mod Lines
 pub mod Names

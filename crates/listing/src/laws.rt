@@ -1,16 +1,17 @@
 // What holds of reading as a whole, beyond the answer to one text, and of what is read.
-ghost use Rattle.listing.specs.Examples.{ExamplesRead};
+ghost use Rattle.std.specs.Prelude.{ℕ, List};
 ghost use Rattle.listing.specs.Laws.{InReach, KnownByLists, ProgramsInReach};
+ghost use Rattle.listing.specs.LineLaws.{ByteTold, FormTold, NamesTold, OrderTold, WordsTold};
 ghost use Rattle.listing.specs.Numbering.{PlacesCount, RegistersApart, VariablesApart};
+ghost use Rattle.listing.specs.Reading.{Progress};
 ghost use Rattle.listing.specs.Reasons.{NumbersAreTheTable};
 ghost use Rattle.listing.specs.WithinLimits.{LimitsAre};
 
-// Does nothing: its contract names the laws.
+// Does nothing: its contract names the laws. So do those below.
 pub fn reading_stands()
     ensures in_reach { InReach }
     ensures programs_in_reach { ProgramsInReach }
     ensures known_by_lists { KnownByLists }
-    ensures examples { ExamplesRead }
 {}
 
 // What a program keeps, and how its parts and the refusals are numbered.
@@ -20,4 +21,13 @@ pub fn numbers_stand()
     ensures registers { RegistersApart }
     ensures variables { VariablesApart }
     ensures refusals { NumbersAreTheTable }
+{}
+
+// The rules of one line: which bytes it may have, which forms there are, and which line may stand where.
+pub fn lines_are_told()
+    ensures bytes { (b : ℕ) → ByteTold b }
+    ensures names { NamesTold }
+    ensures words { (bs : List ℕ) → WordsTold bs }
+    ensures forms { (w : List ℕ) (ws : List (List ℕ)) → FormTold w ws }
+    ensures order { (p : Progress) → OrderTold p }
 {}

@@ -1,7 +1,6 @@
-use Rattle.listing.proofs.Examples.{examples_read}
 use Rattle.listing.proofs.Exact.{in_reach, programs_in_reach}
 use Rattle.listing.proofs.Programs.{same_program}
 use Rattle.listing.proofs.laws.reading_stands.Goals as goal
 
 pub returns : goal.returns
-returns c = record { in_reach = in_reach; programs_in_reach = programs_in_reach; known_by_lists = same_program; examples = examples_read }
+returns c = record { in_reach = in_reach; programs_in_reach = programs_in_reach; known_by_lists = same_program }
