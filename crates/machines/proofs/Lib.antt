@@ -4,6 +4,7 @@ pub mod Checked
 pub mod Configured
 pub mod Everywhere
 pub mod Following
+pub mod Judged
 pub mod Landing
 pub mod Mapped
 pub mod Masks

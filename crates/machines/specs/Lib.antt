@@ -1,13 +1,16 @@
 pub mod Buffered
 pub mod Examples
+pub mod FaultRules
 pub mod Follows
 pub mod Instructions
 pub mod Laws
+pub mod Lists
 pub mod Machines
 pub mod Pictures
 pub mod Places
 pub mod Queues
 pub mod Rounds
 pub mod Rules
+pub mod Shapes
 pub mod Unbuffered
 pub mod lawful

@@ -5,6 +5,7 @@ ghost use Rattle.listing.specs.declared.program.Program.{Program};
 ghost use Rattle.listing.specs.Code.{index};
 ghost use Rattle.machines.specs.Buffered.{buffered};
 ghost use Rattle.machines.specs.Examples.{ExamplesHold};
+ghost use Rattle.machines.specs.FaultRules.{FaultsAreTold};
 ghost use Rattle.machines.specs.Follows.{InOrder, OneThread, OnlyByLanding, ReadsOwn, WaitsAlone, WithinBound};
 ghost use Rattle.machines.specs.Laws.{NoQueues};
 ghost use Rattle.machines.specs.Machines.{leaving_out};
@@ -56,6 +57,11 @@ pub fn rules_are_kept()
     ensures alone { WaitsAlone }
     ensures one { OneThread }
     ensures bound { WithinBound }
+{}
+
+// A picture is told a fault exactly when it is one: when every condition of some fault line holds.
+pub fn faults_are_told()
+    ensures { FaultsAreTold }
 {}
 
 // What the operations on sets of places do, by what is in the set.
