@@ -12,4 +12,5 @@ pub mod Newest
 pub mod Rounded
 pub mod RuleSteps
 pub mod Sets
+pub mod Starting
 pub mod Waiting

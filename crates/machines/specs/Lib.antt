@@ -12,5 +12,6 @@ pub mod Queues
 pub mod Rounds
 pub mod Rules
 pub mod Shapes
+pub mod Start
 pub mod Unbuffered
 pub mod lawful

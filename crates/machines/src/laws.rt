@@ -9,8 +9,10 @@ ghost use Rattle.machines.specs.FaultRules.{FaultsAreTold};
 ghost use Rattle.machines.specs.Follows.{InOrder, OneThread, OnlyByLanding, ReadsOwn, WaitsAlone, WithinBound};
 ghost use Rattle.machines.specs.Laws.{NoQueues};
 ghost use Rattle.machines.specs.Machines.{leaving_out};
+ghost use Rattle.machines.specs.Pictures.{start};
 ghost use Rattle.machines.specs.Places.{has, SetLaws};
 ghost use Rattle.machines.specs.Rules.{ByConfiguration, ByRules};
+ghost use Rattle.machines.specs.Start.{AllAtRest, StartsAtRest};
 ghost use Rattle.machines.specs.Unbuffered.{unbuffered};
 
 use crate::buffered::Buffered;
@@ -38,6 +40,12 @@ pub fn equality_is_exact()
 pub fn meanings_are()
     ensures unbuffered { (p : Program) → ⟦<Unbuffered as Machine>⟧.means (⟦<Unbuffered as Kind>⟧.made p) ≡ unbuffered p }
     ensures buffered { (p : Program) → ⟦<Buffered as Machine>⟧.means (⟦<Buffered as Kind>⟧.made p) ≡ buffered p }
+{}
+
+// Every machine starts with all threads at 0 and all values 0.
+pub fn machines_start<M: Machine>()
+    ensures picture { AllAtRest start }
+    ensures machine { (m : M) → StartsAtRest (M.means m) }
 {}
 
 // A set laid over a machine takes away the steps that cross it, and changes nothing else; and fences everywhere are as good as no queues.
