@@ -12,5 +12,7 @@ pub mod Newest
 pub mod Rounded
 pub mod RuleSteps
 pub mod Sets
+pub mod SharedSteps
 pub mod Starting
+pub mod UnbufferedRuled
 pub mod Waiting

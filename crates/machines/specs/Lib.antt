@@ -12,6 +12,8 @@ pub mod Queues
 pub mod Rounds
 pub mod Rules
 pub mod Shapes
+pub mod SharedRules
 pub mod Start
 pub mod Unbuffered
+pub mod UnbufferedRules
 pub mod lawful

@@ -8,3 +8,5 @@ pub mod Runs
 pub mod Sameness
 pub mod Shape
 pub mod Steps
+pub mod UnbufferedShape
+pub mod UnbufferedSteps

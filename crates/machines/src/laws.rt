@@ -14,6 +14,7 @@ ghost use Rattle.machines.specs.Places.{has, SetLaws};
 ghost use Rattle.machines.specs.Rules.{ByConfiguration, ByRules};
 ghost use Rattle.machines.specs.Start.{AllAtRest, StartsAtRest};
 ghost use Rattle.machines.specs.Unbuffered.{unbuffered};
+ghost use Rattle.machines.specs.UnbufferedRules.{UnbufferedByRules};
 
 use crate::buffered::Buffered;
 use crate::fenced::Fenced;
@@ -55,8 +56,9 @@ pub fn fences_mean<M: Machine>()
     ensures everywhere { (m : M) → NoQueues (M.program m) (M.means m) }
 {}
 
-// The buffered machine goes by the published rules, and what follows from them holds of its runs.
+// The machines go by the published rules, and what follows from those of the buffered one holds of its runs.
 pub fn rules_are_kept()
+    ensures unbuffered { UnbufferedByRules }
     ensures rules { ByRules }
     ensures configurations { ByConfiguration }
     ensures order { InOrder }
