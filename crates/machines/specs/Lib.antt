@@ -1,3 +1,4 @@
+pub mod Bounds
 pub mod Buffered
 pub mod Examples
 pub mod FaultRules

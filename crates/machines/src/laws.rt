@@ -3,6 +3,7 @@ ghost use Rattle.std.specs.Prelude.{◌≡◌, ◌==◌, Decides};
 ghost use Rattle.listing.specs.declared.code.Variable.{Variable};
 ghost use Rattle.listing.specs.declared.program.Program.{Program};
 ghost use Rattle.listing.specs.Code.{index};
+ghost use Rattle.machines.specs.Bounds.{BufferedBounded, UnbufferedBounded};
 ghost use Rattle.machines.specs.Buffered.{buffered};
 ghost use Rattle.machines.specs.Examples.{ExamplesHold};
 ghost use Rattle.machines.specs.FaultRules.{FaultsAreTold};
@@ -67,6 +68,12 @@ pub fn rules_are_kept()
     ensures alone { WaitsAlone }
     ensures one { OneThread }
     ensures bound { WithinBound }
+{}
+
+// At every standing that a run reaches, settled or not, all values are at most 15, and no thread stands past its length.
+pub fn values_are_bounded()
+    ensures unbuffered { UnbufferedBounded }
+    ensures buffered { BufferedBounded }
 {}
 
 // A picture is told a fault exactly when it is one: when every condition of some fault line holds.
