@@ -6,7 +6,7 @@ ghost use Rattle.listing.specs.Code.{index};
 ghost use Rattle.machines.specs.Bounds.{BufferedBounded, UnbufferedBounded};
 ghost use Rattle.machines.specs.Buffered.{buffered};
 ghost use Rattle.machines.specs.Examples.{ExamplesHold};
-ghost use Rattle.machines.specs.FaultRules.{FaultsAreTold};
+ghost use Rattle.machines.specs.FaultRules.{FaultsAreTold, ShownFaultsAreTold};
 ghost use Rattle.machines.specs.Follows.{InOrder, OneThread, OnlyByLanding, ReadsOwn, WaitsAlone, WithinBound};
 ghost use Rattle.machines.specs.Laws.{NoQueues};
 ghost use Rattle.machines.specs.Machines.{leaving_out};
@@ -77,8 +77,9 @@ pub fn values_are_bounded()
 {}
 
 // A picture is told a fault exactly when it is one: when every condition of some fault line holds.
-pub fn faults_are_told()
-    ensures { FaultsAreTold }
+pub fn faults_are_told<M: Machine>()
+    ensures picture { FaultsAreTold }
+    ensures machine { (m : M) → ShownFaultsAreTold (M.program m) (M.means m) }
 {}
 
 // What the operations on sets of places do, by what is in the set.
