@@ -1,7 +1,7 @@
 -- What stands at a place of a list, and a list changed at one place, as functions of the list say it. Nothing is assumed.
 use Rattle.std.proofs.Common.{◌≡◌, ℕ, zero, suc, ◌<◌, List, [], ◌∷◌, length, get_or, set, slice_get, Some, refl, ap, subst, arith}
 use Rattle.std.proofs.lemmas.Option.{get_or_from_slice_get, slice_get_within}
-use Rattle.machines.specs.Rules.{At, Change}
+use Rattle.machines.specs.Lists.{At, Change}
 
 pub at_get : {X : Type 0} {i : ℕ} {x : X} {xs : List X} → At i x xs → slice_get xs i ≡ Some x
 at_get At.here = refl

@@ -4,6 +4,7 @@ pub mod Checked
 pub mod Configured
 pub mod Everywhere
 pub mod Following
+pub mod Judged
 pub mod Landing
 pub mod Mapped
 pub mod Masks
@@ -11,4 +12,7 @@ pub mod Newest
 pub mod Rounded
 pub mod RuleSteps
 pub mod Sets
+pub mod SharedSteps
+pub mod Starting
+pub mod UnbufferedRuled
 pub mod Waiting

@@ -3,14 +3,19 @@ ghost use Rattle.std.specs.Prelude.{◌≡◌, ◌==◌, Decides};
 ghost use Rattle.listing.specs.declared.code.Variable.{Variable};
 ghost use Rattle.listing.specs.declared.program.Program.{Program};
 ghost use Rattle.listing.specs.Code.{index};
+ghost use Rattle.machines.specs.Bounds.{BufferedBounded, UnbufferedBounded};
 ghost use Rattle.machines.specs.Buffered.{buffered};
 ghost use Rattle.machines.specs.Examples.{ExamplesHold};
+ghost use Rattle.machines.specs.FaultRules.{FaultsAreTold, ShownFaultsAreTold};
 ghost use Rattle.machines.specs.Follows.{InOrder, OneThread, OnlyByLanding, ReadsOwn, WaitsAlone, WithinBound};
 ghost use Rattle.machines.specs.Laws.{NoQueues};
 ghost use Rattle.machines.specs.Machines.{leaving_out};
+ghost use Rattle.machines.specs.Pictures.{start};
 ghost use Rattle.machines.specs.Places.{has, SetLaws};
 ghost use Rattle.machines.specs.Rules.{ByConfiguration, ByRules};
+ghost use Rattle.machines.specs.Start.{AllAtRest, StartsAtRest};
 ghost use Rattle.machines.specs.Unbuffered.{unbuffered};
+ghost use Rattle.machines.specs.UnbufferedRules.{UnbufferedByRules};
 
 use crate::buffered::Buffered;
 use crate::fenced::Fenced;
@@ -39,6 +44,12 @@ pub fn meanings_are()
     ensures buffered { (p : Program) → ⟦<Buffered as Machine>⟧.means (⟦<Buffered as Kind>⟧.made p) ≡ buffered p }
 {}
 
+// Every machine starts with all threads at 0 and all values 0.
+pub fn machines_start<M: Machine>()
+    ensures picture { AllAtRest start }
+    ensures machine { (m : M) → StartsAtRest (M.means m) }
+{}
+
 // A set laid over a machine takes away the steps that cross it, and changes nothing else; and fences everywhere are as good as no queues.
 pub fn fences_mean<M: Machine>()
     ensures fenced { (f : _) → ⟦<Fenced<'static, M> as Machine>⟧.means f ≡ leaving_out (has f.places.mask) (M.means f.machine.now) }
@@ -46,8 +57,9 @@ pub fn fences_mean<M: Machine>()
     ensures everywhere { (m : M) → NoQueues (M.program m) (M.means m) }
 {}
 
-// The buffered machine goes by the published rules, and what follows from them holds of its runs.
+// The machines go by the published rules, and what follows from those of the buffered one holds of its runs.
 pub fn rules_are_kept()
+    ensures unbuffered { UnbufferedByRules }
     ensures rules { ByRules }
     ensures configurations { ByConfiguration }
     ensures order { InOrder }
@@ -56,6 +68,18 @@ pub fn rules_are_kept()
     ensures alone { WaitsAlone }
     ensures one { OneThread }
     ensures bound { WithinBound }
+{}
+
+// At every standing that a run reaches, settled or not, all values are at most 15, and no thread stands past its length.
+pub fn values_are_bounded()
+    ensures unbuffered { UnbufferedBounded }
+    ensures buffered { BufferedBounded }
+{}
+
+// A picture is told a fault exactly when it is one: when every condition of some fault line holds.
+pub fn faults_are_told<M: Machine>()
+    ensures picture { FaultsAreTold }
+    ensures machine { (m : M) → ShownFaultsAreTold (M.program m) (M.means m) }
 {}
 
 // What the operations on sets of places do, by what is in the set.

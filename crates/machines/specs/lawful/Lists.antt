@@ -1,5 +1,11 @@
--- What holds at each place of a list after an element of it is set. Nothing is assumed.
-use Rattle.std.proofs.Common.{◌≡◌, ℕ, zero, suc, List, [], ◌∷◌, length, get_or, set, refl, arith}
+-- What holds at each place of a list, and after an element of it is set. Nothing is assumed.
+use Rattle.std.proofs.Common.{◌≡◌, ℕ, zero, suc, List, [], ◌∷◌, All, length, get_or, set, refl, arith}
+
+-- what holds of each element and of what is read past the end holds of all that is read
+pub each_or : {X : Type 0} (P : X → Type 0) (xs : List X) (i : ℕ) (d : X) → All P xs → P d → P (get_or xs i d)
+each_or P [] i d h k = k
+each_or P (x ∷ xs) zero d h k = h zero d (omega arith)
+each_or P (x ∷ xs) (suc i) d h k = each_or P xs i d (λ j e lt. h (suc j) e (omega (arith, lt))) k
 
 -- what holds of two new elements and of each two old ones holds of each two after they are set in lists of one length, at each default
 pub set_both : {X Y : Type 0} (P : ℕ → X → Y → Type 0) (xs : List X) (ys : List Y) (i j : ℕ) (x d : X) (y e : Y)

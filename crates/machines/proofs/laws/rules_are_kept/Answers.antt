@@ -2,7 +2,11 @@ use Rattle.machines.proofs.ByRules.{by_rules}
 use Rattle.machines.proofs.Configured.{by_configuration}
 use Rattle.machines.proofs.Following.{reads_own, waits_alone, one_thread, within_bound}
 use Rattle.machines.proofs.Landing.{in_order, only_by_landing}
+use Rattle.machines.proofs.UnbufferedRuled.{unbuffered_by_rules}
 use Rattle.machines.proofs.laws.rules_are_kept.Goals as goal
+
+pub returns-clause-unbuffered : goal.returns-clause-unbuffered
+returns-clause-unbuffered c = unbuffered_by_rules
 
 pub returns-clause-rules : goal.returns-clause-rules
 returns-clause-rules c = by_rules

@@ -1,0 +1,8 @@
+use Rattle.machines.specs.lawful.Bounded.{buffered_bounded, unbuffered_bounded}
+use Rattle.machines.proofs.laws.values_are_bounded.Goals as goal
+
+pub returns-clause-unbuffered : goal.returns-clause-unbuffered
+returns-clause-unbuffered c = unbuffered_bounded
+
+pub returns-clause-buffered : goal.returns-clause-buffered
+returns-clause-buffered c = buffered_bounded
