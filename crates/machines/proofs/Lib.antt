@@ -1,6 +1,5 @@
 pub mod ByRules
 pub mod Changes
-pub mod Checked
 pub mod Configured
 pub mod Everywhere
 pub mod Following

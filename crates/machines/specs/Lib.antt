@@ -1,6 +1,5 @@
 pub mod Bounds
 pub mod Buffered
-pub mod Examples
 pub mod FaultRules
 pub mod Follows
 pub mod Instructions

@@ -5,7 +5,6 @@ ghost use Rattle.listing.specs.declared.program.Program.{Program};
 ghost use Rattle.listing.specs.Code.{index};
 ghost use Rattle.machines.specs.Bounds.{BufferedBounded, UnbufferedBounded};
 ghost use Rattle.machines.specs.Buffered.{buffered};
-ghost use Rattle.machines.specs.Examples.{ExamplesHold};
 ghost use Rattle.machines.specs.FaultRules.{FaultsAreTold, ShownFaultsAreTold};
 ghost use Rattle.machines.specs.Follows.{InOrder, OneThread, OnlyByLanding, ReadsOwn, WaitsAlone, WithinBound};
 ghost use Rattle.machines.specs.Laws.{NoQueues};
@@ -85,9 +84,4 @@ pub fn faults_are_told<M: Machine>()
 // What the operations on sets of places do, by what is in the set.
 pub fn sets_of_places()
     ensures { SetLaws }
-{}
-
-// Worked examples.
-pub fn examples_hold()
-    ensures { ExamplesHold }
 {}
