@@ -22,7 +22,7 @@ befores_enough p (suc k) (suc s) small h =
     ap (λ xs. cond (suc s == 0) [] (before p low ++ xs)) (befores_enough p k (removing (suc s) low) within (omega (arith, fewer (suc s) (omega arith) small)))
 
 -- the line of the lowest place, and then those of the rest
-befores_first : (p : Program) (k s place : ℕ) → Some place ≡ lowest s → befores p (suc k) s ≡ before p place ++ befores p k (removing s place)
+pub befores_first : (p : Program) (k s place : ℕ) → Some place ≡ lowest s → befores p (suc k) s ≡ before p place ++ befores p k (removing s place)
 unfolding befores
 befores_first p k s place e = here (eqb s 0) e
   where

@@ -20,7 +20,7 @@ shifted n unit next some none same =
     (λ le. digit_some _ _ le ∙ (ap (λ q. (48 + q % 10) ∷ []) same ∙ sym (digit_some _ _ (some le))))
     (cases_lt (n / 10) unit)
 
-tenth : (n : ℕ) → 10 ≤ n → n < 100000 → decimal n ≡ decimal (n / 10) ++ (48 + n % 10) ∷ []
+pub tenth : (n : ℕ) → 10 ≤ n → n < 100000 → decimal n ≡ decimal (n / 10) ++ (48 + n % 10) ∷ []
 unfolding decimal
 tenth n more small =
     let none : digit (n / 10) 10000 ≡ [] = digit_none (n / 10) 10000 (omega arith) in
@@ -30,7 +30,7 @@ tenth n more small =
     let second : digit n 10 ≡ (48 + n / 10 % 10) ∷ [] = digit_some n 10 more in
     rw (none, fifth, fourth, third, second) (simp append_assoc)
 
-single : (n : ℕ) → n < 10 → decimal n ≡ (48 + n) ∷ []
+pub single : (n : ℕ) → n < 10 → decimal n ≡ (48 + n) ∷ []
 unfolding decimal
 single n h =
     let same : n % 10 ≡ n = omega arith in

@@ -1,4 +1,5 @@
 pub mod Appended
+pub mod Applying
 pub mod Arising
 pub mod Befores
 pub mod Calling
@@ -16,5 +17,6 @@ pub mod Ordering
 pub mod Plainly
 pub mod Promising
 pub mod Readings
+pub mod Reporting
 pub mod Showing
 pub mod Solving

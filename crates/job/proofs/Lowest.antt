@@ -7,7 +7,7 @@ use Rattle.listing.specs.declared.refusal.Reason.TheVariants.{TextTooLong, ByteN
 use Rattle.listing.specs.declared.refusal.Refusal.{Refusal}
 use Rattle.listing.specs.Reasons.{number_of}
 use Rattle.job.specs.Checks.{Checks, declined, unless_refused}
-use Rattle.job.specs.Refusals.{ByLowest}
+use Rattle.job.proofs.Applying.{ByReason}
 
 -- the reason of a number
 reason_in : List Reason → ℕ → Reason
@@ -50,7 +50,7 @@ module _ {X : Type 0} where
   declined_same a b r is e = ap (why_of a) (sym is ∙ e)
 
 module _ {X : Type 0} (Applies : Reason → Type 0) where
-  pub refused_by : (r : Reason) (answer : Result X Refusal) → answer ≡ Err (declined r) → Applies r → ((other : Reason) → Applies other → number_of r ≤ number_of other) → ByLowest Applies answer
+  pub refused_by : (r : Reason) (answer : Result X Refusal) → answer ≡ Err (declined r) → Applies r → ((other : Reason) → Applies other → number_of r ≤ number_of other) → ByReason Applies answer
   refused_by r answer is applies lowest = record {
     refused = λ why. (
       λ e. let same : r ≡ why = declined_same r why answer is e in subst (λ x. Applies x × ((other : Reason) → Applies other → number_of x ≤ number_of other)) same (applies, lowest),
@@ -59,7 +59,7 @@ module _ {X : Type 0} (Applies : Reason → Type 0) where
     granted = (λ g. let no : ⊥ = cc in absurd no, λ none. absurd (none r applies));
   }
 
-  pub granted_by : (x : X) (answer : Result X Refusal) → answer ≡ Ok x → ((why : Reason) → Applies why → ⊥) → ByLowest Applies answer
+  pub granted_by : (x : X) (answer : Result X Refusal) → answer ≡ Ok x → ((why : Reason) → Applies why → ⊥) → ByReason Applies answer
   granted_by x answer is none = record {
     refused = λ why. (λ e. let no : ⊥ = cc in absurd no, λ a. absurd (none why a.0));
     granted = (λ g. none, λ h. (x, is));
@@ -86,7 +86,7 @@ later n ((r, b) ∷ cs) why up raised =
     ⊎_elim (λ here. subst (λ x. n < number_of x) here.0 (ltb-true _ _ parts.0)) (λ more. later n cs why parts.1 more) raised
 
 -- what applies may be said in other words
-pub moved : {X : Type 0} (A B : Reason → Type 0) {answer : Result X Refusal} → ((why : Reason) → A why ↔ B why) → ByLowest A answer → ByLowest B answer
+pub moved : {X : Type 0} (A B : Reason → Type 0) {answer : Result X Refusal} → ((why : Reason) → A why ↔ B why) → ByReason A answer → ByReason B answer
 moved A B both l = record {
   refused = λ why. (
     λ e. let a = (l.refused why).0 e in ((both why).0 a.0, λ other b. a.1 other ((both other).1 b)),
@@ -95,7 +95,7 @@ moved A B both l = record {
   granted = (λ g why b. (l.granted).0 g why ((both why).1 b), λ none. (l.granted).1 (λ why a. none why ((both why).0 a)));
 }
 
-by_lowest : {X : Type 0} (cs : Checks) (x : X) → rising cs ≡ true → ByLowest (Raised cs) (unless_refused cs x)
+by_lowest : {X : Type 0} (cs : Checks) (x : X) → rising cs ≡ true → ByReason (Raised cs) (unless_refused cs x)
 by_lowest [] x up = granted_by (Raised []) x (Ok x) refl (λ why h. h)
 by_lowest ((r, true) ∷ cs) x up =
     let parts = and_parts (above (number_of r) cs) (rising cs) up in
@@ -107,5 +107,5 @@ by_lowest ((r, false) ∷ cs) x up =
 
 -- each check applies where its rule does, and each rule that applies has a check
 pub lowest : {X : Type 0} (Applies : Reason → Type 0) (cs : Checks) (x : X) → rising cs ≡ true → ((why : Reason) → Raised cs why → Applies why) → ((why : Reason) → Applies why → Raised cs why)
-    → ByLowest Applies (unless_refused cs x)
+    → ByReason Applies (unless_refused cs x)
 lowest Applies cs x up sound complete = moved (Raised cs) Applies (λ why. (sound why, complete why)) (by_lowest cs x up)

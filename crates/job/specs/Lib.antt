@@ -7,6 +7,7 @@ pub mod Lent
 pub mod Loads
 pub mod Promises
 pub mod Refusals
+pub mod Reports
 pub mod States
 pub mod Text
 pub mod Texts

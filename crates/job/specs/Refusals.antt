@@ -1,8 +1,6 @@
 -- Which refusals apply to a call, each said by itself; the call is refused by the lowest number that applies, and granted when none does.
-use Rattle.std.specs.Prelude.{◌≡◌, ◌↔◌, ℕ, ◌≤◌, ◌<◌, true, false, List, Some, None, Ok, Err, Result, Contains}
+use Rattle.std.specs.Prelude.{◌≡◌, ◌↔◌, ℕ, ◌≤◌, ◌<◌, true, false, List, length, Some, None, Ok, Err, Result, Contains}
 use Rattle.listing.specs.declared.program.Program.{Program}
-use Rattle.listing.specs.declared.refusal.Reason.{Reason}
-use Rattle.listing.specs.declared.refusal.Reason.TheVariants.{NoProgram, PlaceMissing, AlreadySo, RunListTooShort, NoPlacement, PlaceNotKept, TooFewRows, NoneEnough, BufferTooShort}
 use Rattle.listing.specs.declared.refusal.Refusal.{Refusal}
 use Rattle.listing.specs.Code.{code_of, places}
 use Rattle.listing.specs.Laws.{FirstWrong}
@@ -14,7 +12,7 @@ use Rattle.machines.specs.Unbuffered.{unbuffered}
 use Rattle.search.specs.Faults.{FaultRun, KeepsTo, TooMany}
 use Rattle.job.specs.declared.solution.Solution.{Solution}
 use Rattle.job.specs.Answers.{bar_answer, free_answer, solve_answer, test_verdict, show_verdict, plain_verdict, report_answer}
-use Rattle.job.specs.Checks.{declined}
+use Rattle.job.specs.Lent.{after_line}
 use Rattle.job.specs.States.{Held, State, open_places}
 use Rattle.job.specs.Texts.{program_of}
 
@@ -30,64 +28,79 @@ Missing q h = places h.program ≤ q
 abbrev pub NotKept : ℕ → Held → Type 0
 NotKept q h = (k : Solution) → h.kept ≡ Some k → has k.places.mask q ≡ false
 
--- which refusals apply to a call, each by itself; those that are not named never do
-abbrev pub BarApplies : State → ℕ → Reason → Type 0
-BarApplies s q NoProgram = s ≡ None
-BarApplies s q PlaceMissing = Holding s (Missing q)
-BarApplies s q AlreadySo = Holding s (λ h. has h.barred.mask q ≡ true)
-BarApplies s q _ = ⊥
+-- Of each call, which refusals apply, by their numbers; no other number ever does.
+
+-- of `bar`
+pub data BarApplies (s : State) (q : ℕ) : ℕ → Type 0 where
+  -- no program was read
+  no_program : s ≡ None → BarApplies s q 8
+  -- the place is not in the program
+  missing : Holding s (Missing q) → BarApplies s q 9
+  -- it is barred already
+  already : Holding s (λ h. has h.barred.mask q ≡ true) → BarApplies s q 10
 
 -- of `free`
-abbrev pub FreeApplies : State → ℕ → Reason → Type 0
-FreeApplies s q NoProgram = s ≡ None
-FreeApplies s q PlaceMissing = Holding s (Missing q)
-FreeApplies s q AlreadySo = Holding s (λ h. has h.barred.mask q ≡ false)
-FreeApplies s q _ = ⊥
+pub data FreeApplies (s : State) (q : ℕ) : ℕ → Type 0 where
+  no_program : s ≡ None → FreeApplies s q 8
+  missing : Holding s (Missing q) → FreeApplies s q 9
+  -- it is open already
+  already : Holding s (λ h. has h.barred.mask q ≡ false) → FreeApplies s q 10
 
--- of `plain`: the rows are those of the unbuffered machine
-abbrev pub PlainApplies : State → ℕ → ℕ → Reason → Type 0
-PlainApplies s rows run NoProgram = s ≡ None
-PlainApplies s rows run RunListTooShort = run < rows
-PlainApplies s rows run TooFewRows = Holding s (λ h. TooMany (unbuffered h.program) rows)
-PlainApplies s rows run _ = ⊥
+-- of `plain`, with so many rows and a run list of that length: the rows are those of the unbuffered machine
+pub data PlainApplies (s : State) (rows run : ℕ) : ℕ → Type 0 where
+  no_program : s ≡ None → PlainApplies s rows run 8
+  -- the run list is shorter than the number of rows
+  short_list : run < rows → PlainApplies s rows run 11
+  -- more standings are reached, with no fence, than there are rows
+  too_few_rows : Holding s (λ h. TooMany (unbuffered h.program) rows) → PlainApplies s rows run 14
 
--- of `report`
-abbrev pub ReportApplies : State → ℕ → Reason → Type 0
-ReportApplies s long NoProgram = s ≡ None
-ReportApplies s long NoPlacement = Holding s (λ h. h.kept ≡ None)
-ReportApplies s long BufferTooShort = long < 512
-ReportApplies s long _ = ⊥
+-- of `report`, with a buffer of that length
+pub data ReportApplies (s : State) (long : ℕ) : ℕ → Type 0 where
+  no_program : s ≡ None → ReportApplies s long 8
+  -- no placement is kept
+  none_kept : Holding s (λ h. h.kept ≡ None) → ReportApplies s long 12
+  short_buffer : long < 512 → ReportApplies s long 16
+
+-- of a refusal's line
+pub data LineApplies (long : ℕ) : ℕ → Type 0 where
+  short_buffer : long < 512 → LineApplies long 16
 
 module _ {S : Type 0} (M : Program → Meaning S) where
   -- of `solve`
-  abbrev pub SolveApplies : State → ℕ → Reason → Type 0
-  SolveApplies s rows NoProgram = s ≡ None
-  SolveApplies s rows TooFewRows = Holding s (λ h. TooMany (M h.program) rows)
-  SolveApplies s rows NoneEnough = Holding s (λ h. (ns : List ℕ) × FaultRun h.program (M h.program) ns × KeepsTo (M h.program) ns (open_places h))
-  SolveApplies s rows _ = ⊥
+  pub data SolveApplies (s : State) (rows : ℕ) : ℕ → Type 0 where
+    no_program : s ≡ None → SolveApplies s rows 8
+    too_few_rows : Holding s (λ h. TooMany (M h.program) rows) → SolveApplies s rows 14
+    -- some fault run keeps to all open places
+    none_enough : Holding s (λ h. (ns : List ℕ) × FaultRun h.program (M h.program) ns × KeepsTo (M h.program) ns (open_places h)) → SolveApplies s rows 15
 
   -- of `test`
-  abbrev pub TestApplies : State → List ℕ → ℕ → ℕ → Reason → Type 0
-  TestApplies s qs rows run NoProgram = s ≡ None
-  TestApplies s qs rows run PlaceMissing = Holding s (λ h. (q : ℕ) × Contains qs q × Missing q h)
-  TestApplies s qs rows run RunListTooShort = run < rows
-  TestApplies s qs rows run TooFewRows = Holding s (λ h. TooMany (M h.program) rows)
-  TestApplies s qs rows run _ = ⊥
+  pub data TestApplies (s : State) (qs : List ℕ) (rows run : ℕ) : ℕ → Type 0 where
+    no_program : s ≡ None → TestApplies s qs rows run 8
+    missing : Holding s (λ h. (q : ℕ) × Contains qs q × Missing q h) → TestApplies s qs rows run 9
+    short_list : run < rows → TestApplies s qs rows run 11
+    too_few_rows : Holding s (λ h. TooMany (M h.program) rows) → TestApplies s qs rows run 14
 
   -- of `show`
-  abbrev pub ShowApplies : State → ℕ → ℕ → ℕ → Reason → Type 0
-  ShowApplies s q rows run NoProgram = s ≡ None
-  ShowApplies s q rows run PlaceMissing = Holding s (Missing q)
-  ShowApplies s q rows run RunListTooShort = run < rows
-  ShowApplies s q rows run NoPlacement = Holding s (λ h. h.kept ≡ None)
-  ShowApplies s q rows run PlaceNotKept = Holding s (NotKept q)
-  ShowApplies s q rows run TooFewRows = Holding s (λ h. TooMany (M h.program) rows)
-  ShowApplies s q rows run _ = ⊥
+  pub data ShowApplies (s : State) (q rows run : ℕ) : ℕ → Type 0 where
+    no_program : s ≡ None → ShowApplies s q rows run 8
+    missing : Holding s (Missing q) → ShowApplies s q rows run 9
+    short_list : run < rows → ShowApplies s q rows run 11
+    none_kept : Holding s (λ h. h.kept ≡ None) → ShowApplies s q rows run 12
+    -- the place is not in what is kept
+    not_kept : Holding s (NotKept q) → ShowApplies s q rows run 13
+    too_few_rows : Holding s (λ h. TooMany (M h.program) rows) → ShowApplies s q rows run 14
 
--- an answer by the rules of which each says of a reason whether it applies
-pub record ByLowest {X : Type 0} (Applies : Reason → Type 0) (r : Result X Refusal) : Type 0 where
-  pub refused : (why : Reason) → (r ≡ Err (declined why)) ↔ (Applies why × ((other : Reason) → Applies other → number_of why ≤ number_of other))
-  pub granted : ((x : X) × (r ≡ Ok x)) ↔ ((why : Reason) → Applies why → ⊥)
+-- the answer is the refusal of this number, at line 0
+pub record Refused {X : Type 0} (n : ℕ) (r : Result X Refusal) : Type 0 where
+  pub refusal : Refusal
+  pub answered : r ≡ Err refusal
+  pub number : number_of refusal.reason ≡ n
+  pub line : refusal.line ≡ 0
+
+-- an answer by the rules of which each says of a number whether it applies
+pub record ByLowest {X : Type 0} (Applies : ℕ → Type 0) (r : Result X Refusal) : Type 0 where
+  pub refused : (n : ℕ) → Refused n r ↔ (Applies n × ((other : ℕ) → Applies other → n ≤ other))
+  pub granted : ((x : X) × (r ≡ Ok x)) ↔ ((n : ℕ) → Applies n → ⊥)
 
 -- of every call; a text is refused by the first thing that is wrong with it
 pub record InOrder {S : Type 0} (M : Program → Meaning S) (s : State) : Type 0 where
@@ -99,3 +112,4 @@ pub record InOrder {S : Type 0} (M : Program → Meaning S) (s : State) : Type 0
   pub show : (q rows run : ℕ) → ByLowest (ShowApplies M s q rows run) (show_verdict M s q rows run)
   pub plain : (rows run : ℕ) → ByLowest (PlainApplies s rows run) (plain_verdict s rows run)
   pub report : (long : ℕ) → ByLowest (ReportApplies s long) (report_answer s long)
+  pub line : (e : Refusal) (out : List ℕ) → ByLowest (LineApplies (length out)) (after_line e out).0

@@ -4,6 +4,7 @@ ghost use Rattle.job.specs.Changes.{Changes, OpenPlaces, Seen};
 ghost use Rattle.job.specs.Checks.{HasThese};
 ghost use Rattle.job.specs.Promises.{Always};
 ghost use Rattle.job.specs.Refusals.{InOrder};
+ghost use Rattle.job.specs.Reports.{Printing};
 ghost use Rattle.job.specs.States.{State};
 ghost use Rattle.job.specs.Texts.{ReadsAs};
 ghost use Rattle.job.specs.Verdicts.{MemoryLeft, Verdicts};
@@ -42,4 +43,10 @@ pub fn sets_are_their_places()
 /// does.
 pub fn lowest_number_first<K: Kind>()
     ensures { (s : State) → InOrder (λ p. K.means (K.made p)) s }
+{}
+
+/// A report has one line for each place of its set, in ascending order, which names the thread and the number within it; a
+/// refusal's line has its number and its line. Numbers are in decimal, with no leading zero.
+pub fn lines_are_printed()
+    ensures { Printing }
 {}

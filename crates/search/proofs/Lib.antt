@@ -3,7 +3,9 @@ pub mod Answering
 pub mod Bests
 pub mod Candidates
 pub mod Choices
+pub mod Declining
 pub mod Exploring
+pub mod Faulting
 pub mod Fitting
 pub mod Frontier
 pub mod Grown

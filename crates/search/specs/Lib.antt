@@ -5,3 +5,4 @@ pub mod Explored
 pub mod Faults
 pub mod Laws
 pub mod Least
+pub mod Refusals
