@@ -8,7 +8,7 @@ use Rattle.listing.specs.declared.code.Operand.TheVariants.{Value, Register}
 use Rattle.listing.specs.declared.code.Register.TheVariants.{R0, R1, R2, R3}
 use Rattle.listing.specs.declared.code.Variable.TheVariants.{A, B, C, D, E, F, G, H}
 use Rattle.listing.specs.Code.{Code}
-use Rattle.worked.specs.Claims.{Claim, Example, Holds, is_read, reads, refused}
+use Rattle.worked.specs.Claims.{Claim, Example, Holds, is_read, reads, refused, reaches, never, ends, present, absent}
 
 -- what is claimed of one text, and what of each of several
 abbrev row : List ℕ → List Claim → Example
@@ -63,6 +63,11 @@ program_of_every_form =
           ∷ [];
     }
 
+abbrev store_buffering : List ℕ
+store_buffering =
+    codes "bound 1\nthread\nstore a 1\nload r0 b\nthread\nstore b 1\nload r0 a\n"
+    ++ codes "fault at 0 2 at 1 2 reg 0 r0 0 reg 1 r0 0\n"
+
 -- What is read, and what is refused: at the first line that is wrong, for the first rule that it breaks.
 abbrev pub readings : List Example
 readings =
@@ -109,5 +114,37 @@ readings =
     ∷ row (codes "bound 1\nthread\nstore a 16\nStore a 1\n") (refused 4 3 ∷ [])
     ∷ []
 
+-- What the machines do. None of these listings has a fault that is reached.
+abbrev pub runs : List Example
+runs =
+    -- one store
+    row (codes "bound 1\nthread\nstore a 1\nfault mem a 2\n") (reaches 3 2 ∷ [])
+    -- a thread reads what it has written, before others can
+    ∷ row (codes "bound 1\nthread\nstore a 1\nload r0 a\nfault mem a 2\n")
+    (never (At 0 2 ∷ Has 0 R0 0 ∷ []) ∷ ends (At 0 2 ∷ []) (Has 0 R0 1 ∷ Memory A 1 ∷ []) ∷ [])
+    -- of two waiting writes the newest; a third has to wait
+    ∷ row (codes "bound 2\nthread\nstore a 1\nstore a 2\nload r0 a\nstore a 3\nfault mem a 4\n")
+    (present (0 ∷ []) 0 ∷ ends (At 0 4 ∷ []) (Has 0 R0 2 ∷ Memory A 3 ∷ [])
+    ∷ absent (0 ∷ 0 ∷ 0 ∷ []) 0 ∷ present (0 ∷ 0 ∷ 0 ∷ 1 ∷ []) 0 ∷ [])
+    -- with the bound 1 the second has to
+    ∷ row (codes "bound 1\nthread\nstore a 1\nstore b 1\nfault mem a 2\n") (absent (0 ∷ []) 0 ∷ present (0 ∷ 1 ∷ []) 0 ∷ [])
+    -- and so have `fence` and `cas`; this `cas` succeeds
+    ∷ row (codes "bound 1\nthread\nstore a 1\nfence\nfault mem a 2\n") (absent (0 ∷ []) 0 ∷ present (0 ∷ 1 ∷ []) 0 ∷ [])
+    ∷ row (codes "bound 1\nthread\nstore a 1\ncas r0 a 1 2\nfault mem a 3\n")
+    (absent (0 ∷ []) 0 ∷ present (0 ∷ 1 ∷ []) 0 ∷ ends (At 0 2 ∷ []) (Has 0 R0 1 ∷ Memory A 2 ∷ []) ∷ [])
+    -- sums are taken modulo 16, and this `cas` fails
+    ∷ row (codes "bound 1\nthread\nset r1 15\nadd r1 1\nset r0 7\ncas r0 a 1 2\nfault mem a 2\n")
+    (ends (At 0 4 ∷ []) (Has 0 R0 0 ∷ Has 0 R1 0 ∷ Memory A 0 ∷ []) ∷ [])
+    -- the instructions 3, 5 and 7 are jumped over
+    ∷ row (codes "bound 1\nthread\njeq r0 1 3\njne r0 0 3\njeq r0 0 4\nfence\njne r0 1 6\nfence\njump 8\nfence\nfault mem a 1\n")
+    (reaches 6 6 ∷ never (At 0 3 ∷ []) ∷ never (At 0 5 ∷ []) ∷ never (At 0 7 ∷ []) ∷ ends (At 0 8 ∷ []) [] ∷ [])
+    -- store buffering: both threads may read 0
+    ∷ row store_buffering
+    (reaches 34 13 ∷ ends (Has 0 R0 0 ∷ Has 1 R0 0 ∷ At 0 2 ∷ At 1 2 ∷ []) (Memory A 1 ∷ Memory B 1 ∷ []) ∷ [])
+    -- but not where each has a fence
+    ∷ row (codes "bound 1\nthread\nstore a 1\nfence\nload r0 b\nthread\nstore b 1\nfence\nload r0 a\nfault mem a 2\n")
+    (never (Has 0 R0 0 ∷ Has 1 R0 0 ∷ At 0 3 ∷ At 1 3 ∷ []) ∷ ends (At 0 3 ∷ At 1 3 ∷ []) (Memory A 1 ∷ Memory B 1 ∷ []) ∷ [])
+    ∷ []
+
 abbrev pub ExamplesHold : Type 0
-ExamplesHold = All Holds readings
+ExamplesHold = All Holds (readings ++ runs)
