@@ -1,5 +1,5 @@
 -- The table of worked examples, in three parts.
-use Rattle.std.specs.Prelude.{ℕ, List, [], ◌∷◌, ◌++◌, map, replicate, codes}
+use Rattle.std.specs.Prelude.{ℕ, true, false, List, [], ◌∷◌, ◌++◌, map, replicate, codes}
 use Rattle.std.specs.List.{AllByRecursion as All, flat_map}
 use Prim.Native.String.{String}
 use Rattle.listing.specs.declared.code.Condition.TheVariants.{At, Holds as Has, Memory}
@@ -8,7 +8,7 @@ use Rattle.listing.specs.declared.code.Operand.TheVariants.{Value, Register}
 use Rattle.listing.specs.declared.code.Register.TheVariants.{R0, R1, R2, R3}
 use Rattle.listing.specs.declared.code.Variable.TheVariants.{A, B, C, D, E, F, G, H}
 use Rattle.listing.specs.Code.{Code}
-use Rattle.worked.specs.Claims.{Claim, Example, Holds, is_read, reads, refused, reaches, never, ends, present, absent}
+use Rattle.worked.specs.Claims.{Claim, Example, Holds, is_read, reads, refused, reaches, never, ends, present, absent, prints, plainly}
 
 -- what is claimed of one text, and what of each of several
 abbrev row : List ℕ → List Claim → Example
@@ -63,11 +63,6 @@ program_of_every_form =
           ∷ [];
     }
 
-abbrev store_buffering : List ℕ
-store_buffering =
-    codes "bound 1\nthread\nstore a 1\nload r0 b\nthread\nstore b 1\nload r0 a\n"
-    ++ codes "fault at 0 2 at 1 2 reg 0 r0 0 reg 1 r0 0\n"
-
 -- What is read, and what is refused: at the first line that is wrong, for the first rule that it breaks.
 abbrev pub readings : List Example
 readings =
@@ -114,37 +109,66 @@ readings =
     ∷ row (codes "bound 1\nthread\nstore a 16\nStore a 1\n") (refused 4 3 ∷ [])
     ∷ []
 
--- What the machines do. None of these listings has a fault that is reached.
+-- What the machines do.
 abbrev pub runs : List Example
 runs =
-    -- one store
-    row (codes "bound 1\nthread\nstore a 1\nfault mem a 2\n") (reaches 3 2 ∷ [])
     -- a thread reads what it has written, before others can
-    ∷ row (codes "bound 1\nthread\nstore a 1\nload r0 a\nfault mem a 2\n")
+    row (codes "bound 1\nthread\nstore a 1\nload r0 a\nfault mem a 2\n")
     (never (At 0 2 ∷ Has 0 R0 0 ∷ []) ∷ ends (At 0 2 ∷ []) (Has 0 R0 1 ∷ Memory A 1 ∷ []) ∷ [])
-    -- of two waiting writes the newest; a third has to wait
+    -- it reads the newest of two waiting writes; a third store waits for a drain
     ∷ row (codes "bound 2\nthread\nstore a 1\nstore a 2\nload r0 a\nstore a 3\nfault mem a 4\n")
-    (present (0 ∷ []) 0 ∷ ends (At 0 4 ∷ []) (Has 0 R0 2 ∷ Memory A 3 ∷ [])
-    ∷ absent (0 ∷ 0 ∷ 0 ∷ []) 0 ∷ present (0 ∷ 0 ∷ 0 ∷ 1 ∷ []) 0 ∷ [])
-    -- with the bound 1 the second has to
-    ∷ row (codes "bound 1\nthread\nstore a 1\nstore b 1\nfault mem a 2\n") (absent (0 ∷ []) 0 ∷ present (0 ∷ 1 ∷ []) 0 ∷ [])
-    -- and so have `fence` and `cas`; this `cas` succeeds
-    ∷ row (codes "bound 1\nthread\nstore a 1\nfence\nfault mem a 2\n") (absent (0 ∷ []) 0 ∷ present (0 ∷ 1 ∷ []) 0 ∷ [])
+    (present (0 ∷ []) 0 ∷ absent (0 ∷ 0 ∷ 0 ∷ []) 0 ∷ present (0 ∷ 0 ∷ 0 ∷ 1 ∷ []) 0
+    ∷ ends (At 0 4 ∷ []) (Has 0 R0 2 ∷ Memory A 3 ∷ []) ∷ [])
+    -- with the bound 1 the second waits
+    ∷ row (codes "bound 1\nthread\nstore a 1\nstore b 1\nfault mem a 2\n")
+    (absent (0 ∷ []) 0 ∷ present (0 ∷ 1 ∷ []) 0 ∷ [])
+    -- `fence` and `cas` wait until nothing does; this `cas` succeeds
+    ∷ row (codes "bound 2\nthread\nstore a 1\nstore b 1\nfence\nfault mem a 2\n")
+    (absent (0 ∷ 0 ∷ []) 0 ∷ absent (0 ∷ 0 ∷ 1 ∷ []) 0 ∷ present (0 ∷ 0 ∷ 1 ∷ 1 ∷ []) 0 ∷ [])
     ∷ row (codes "bound 1\nthread\nstore a 1\ncas r0 a 1 2\nfault mem a 3\n")
     (absent (0 ∷ []) 0 ∷ present (0 ∷ 1 ∷ []) 0 ∷ ends (At 0 2 ∷ []) (Has 0 R0 1 ∷ Memory A 2 ∷ []) ∷ [])
-    -- sums are taken modulo 16, and this `cas` fails
-    ∷ row (codes "bound 1\nthread\nset r1 15\nadd r1 1\nset r0 7\ncas r0 a 1 2\nfault mem a 2\n")
-    (ends (At 0 4 ∷ []) (Has 0 R0 0 ∷ Has 0 R1 0 ∷ Memory A 0 ∷ []) ∷ [])
-    -- the instructions 3, 5 and 7 are jumped over
+    -- this one fails; and sums are taken modulo 16
+    ∷ row (codes "bound 1\nthread\nset r0 7\ncas r0 a 1 2\nset r1 15\nadd r1 1\nfault mem a 2\n")
+    (ends (At 0 4 ∷ []) (Has 0 R0 0 ∷ Memory A 0 ∷ Has 0 R1 0 ∷ []) ∷ [])
+    -- each way that a jump may go; the instructions 3, 5 and 7 are passed over
     ∷ row (codes "bound 1\nthread\njeq r0 1 3\njne r0 0 3\njeq r0 0 4\nfence\njne r0 1 6\nfence\njump 8\nfence\nfault mem a 1\n")
-    (reaches 6 6 ∷ never (At 0 3 ∷ []) ∷ never (At 0 5 ∷ []) ∷ never (At 0 7 ∷ []) ∷ ends (At 0 8 ∷ []) [] ∷ [])
-    -- store buffering: both threads may read 0
-    ∷ row store_buffering
-    (reaches 34 13 ∷ ends (Has 0 R0 0 ∷ Has 1 R0 0 ∷ At 0 2 ∷ At 1 2 ∷ []) (Memory A 1 ∷ Memory B 1 ∷ []) ∷ [])
-    -- but not where each has a fence
+    (reaches 6 6 ∷ never (At 0 3 ∷ []) ∷ never (At 0 5 ∷ []) ∷ never (At 0 7 ∷ []) ∷ [])
+    -- where each of two threads stores, has a fence and loads what the other stores, they do not both read 0
     ∷ row (codes "bound 1\nthread\nstore a 1\nfence\nload r0 b\nthread\nstore b 1\nfence\nload r0 a\nfault mem a 2\n")
     (never (Has 0 R0 0 ∷ Has 1 R0 0 ∷ At 0 3 ∷ At 1 3 ∷ []) ∷ ends (At 0 3 ∷ At 1 3 ∷ []) (Memory A 1 ∷ Memory B 1 ∷ []) ∷ [])
     ∷ []
 
+-- What solving prints, with so many rows and such places barred, and whether the unbuffered machine is free of faults.
+abbrev pub solutions : List Example
+solutions =
+    -- one store; three rows hold what is reached, and two do not
+    row (codes "bound 1\nthread\nstore a 1\nfault mem a 2\n")
+    (reaches 3 2 ∷ prints 3 [] (codes "fences 0\n")
+    ∷ prints 2 [] (codes "refused 14 line 0\n") ∷ prints 0 [] (codes "refused 14 line 0\n") ∷ [])
+    -- no fence keeps out a fault that the unbuffered machine has
+    ∷ row (codes "bound 1\nthread\nstore a 1\nfault mem a 1\n")
+    (plainly 512 false ∷ prints 512 [] (codes "refused 15 line 0\n") ∷ [])
+    -- store buffering: both threads may read 0; barring place 1 leaves no way to keep that out
+    ∷ row
+    (codes "bound 1\nthread\nstore a 1\nload r0 b\nthread\nstore b 1\nload r0 a\nfault at 0 2 at 1 2 reg 0 r0 0 reg 1 r0 0\n")
+    (reaches 34 13 ∷ ends (At 0 2 ∷ At 1 2 ∷ Has 0 R0 0 ∷ Has 1 R0 0 ∷ []) (Memory A 1 ∷ Memory B 1 ∷ [])
+    ∷ plainly 512 true
+    ∷ prints 512 [] (codes "fences 2\nbefore 0 1\nbefore 1 1\n")
+    ∷ prints 512 (1 ∷ []) (codes "refused 15 line 0\n") ∷ [])
+    -- with an instruction between the store and the load the fence may stand before either, and stands before the lower place
+    ∷ row
+    (codes "bound 1\nthread\nstore a 1\nset r1 0\nload r0 b\nthread\nstore b 1\nload r0 a\nfault at 0 3 at 1 2 reg 0 r0 0 reg 1 r0 0\n")
+    (prints 512 [] (codes "fences 2\nbefore 0 1\nbefore 1 1\n")
+    ∷ prints 512 (1 ∷ []) (codes "fences 2\nbefore 0 2\nbefore 1 1\n") ∷ [])
+    -- message passing needs no fence
+    ∷ row
+    (codes "bound 1\nthread\nstore a 1\nstore b 1\nthread\nload r0 b\nload r1 a\nfault at 1 2 reg 1 r0 1 reg 1 r1 0\n")
+    (plainly 512 true ∷ prints 512 [] (codes "fences 0\n") ∷ [])
+    ∷ []
+
+abbrev pub examples : List Example
+examples = readings ++ (runs ++ solutions)
+
+-- every row of the table holds
 abbrev pub ExamplesHold : Type 0
-ExamplesHold = All Holds (readings ++ runs)
+ExamplesHold = All Holds examples
