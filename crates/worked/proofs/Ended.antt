@@ -1,7 +1,7 @@
 -- What a machine reaches, from the first round on that the next one adds nothing to. Nothing is assumed.
 --   last f k ss next    the first of f rounds from the round k on that the next one adds nothing to, and what it holds
 --   ended m             that of the first forty; reached_in m n: what n rounds hold, if there is one
---   on o f              there is a value, and it passes the test f
+--   on o f              there is a value, and it passes the test f; then o f: what f makes of it, if there is one
 --   Held m ss           ss are what the machine reaches, each standing once
 use Rattle.std.proofs.Common.{◌≡◌, ◌≢◌, ◌↔◌, ℕ, zero, suc, ◌≤◌, Bool, true, false, List, [], ◌∷◌, length, AllPairs, Contains, Some, None, Option, ◌==◌, nat_le, refl, sym, ap, ◌∙◌, subst, ⊎_elim, arith}
 use Rattle.std.proofs.lemmas.Bool.{cases_eq, leb-true}
@@ -20,6 +20,14 @@ pub on_some : {X : Type 0} (o : Option X) (f : X → Bool) → on o f ≡ true �
 on_some None f h = absurd (let no : ⊥ = cc in no)
 on_some (Some x) f h = (x, refl, h)
 
+abbrev pub then : {X Y : Type 0} → Option X → (X → Option Y) → Option Y
+then None f = None
+then (Some x) f = f x
+
+pub then_some : {X Y : Type 0} (o : Option X) (f : X → Option Y) (y : Y) → then o f ≡ Some y → (x : X) × (o ≡ Some x) × (f x ≡ Some y)
+then_some None f y h = absurd (let no : ⊥ = cc in no)
+then_some (Some x) f y h = (x, refl, h)
+
 module _ {S : Type 0} (m : Meaning S) where
   abbrev last : ℕ → ℕ → List S → List S → Option (ℕ × List S)
   last zero k ss next = None
@@ -28,21 +36,28 @@ module _ {S : Type 0} (m : Meaning S) where
   abbrev pub ended : Option (ℕ × List S)
   ended = let first = m.start ∷ [] in last 40 0 first (round m first first)
 
+  abbrev within : ℕ → ℕ × List S → Option (List S)
+  within n r = elim (nat_le r.0 n) [ true ↦ Some r.1 | false ↦ Some (rounds m n) ]
+
   abbrev pub reached_in : ℕ → Option (List S)
-  reached_in n = elim ended [ None ↦ None | Some r ↦ elim (nat_le r.0 n) [ true ↦ Some r.1 | false ↦ Some (rounds m n) ] ]
+  reached_in n = then ended (within n)
 
   abbrev Settled : ℕ × List S → Type 0
   Settled r = (settles m r.0 ≡ true) × (rounds m r.0 ≡ r.1)
 
-  last_is : (f k : ℕ) (ss next : List S) (r : ℕ × List S) → rounds m k ≡ ss → rounds m (suc k) ≡ next → last f k ss next ≡ Some r → Settled r
+  last_is : (f k : ℕ) (ss next : List S) (r : ℕ × List S) → rounds m k ≡ ss → rounds m (suc k) ≡ next
+      → last f k ss next ≡ Some r → Settled r
   last_is zero k ss next r here there e = absurd (let no : ⊥ = cc in no)
-  last_is (suc f) k ss next r here there e = by (last_is f (suc k) next (round m next next) r there (ap (λ l. round m l l) there)) (length next == length ss) refl e
+  last_is (suc f) k ss next r here there e =
+      let later = last_is f (suc k) next (round m next next) r there (ap (λ l. round m l l) there) in
+      by later (length next == length ss) refl e
     where
       by : (last f (suc k) next (round m next next) ≡ Some r → Settled r) → (b : Bool) → (length next == length ss) ≡ b
           → elim b [ true ↦ Some (k, ss) | false ↦ last f (suc k) next (round m next next) ] ≡ Some r → Settled r
       by later true same e =
           let is : (k, ss) ≡ r = cc in
-          subst Settled is (ap (λ l. length l == length (rounds m k)) there ∙ (ap (λ l. length next == length l) here ∙ same), here)
+          let adds : settles m k ≡ true = ap (λ l. length l == length (rounds m k)) there ∙ (ap (λ l. length next == length l) here ∙ same) in
+          subst Settled is (adds, here)
       by later false more e = later e
 
   ended_is : (r : ℕ × List S) → ended ≡ Some r → Settled r
@@ -72,15 +87,9 @@ module _ {S : Type 0} {p : Program} (m : Meaning S) (l : Lawful p m) where
       (cases_eq k (suc n))
 
   pub in_rounds : (n : ℕ) (ss : List S) → reached_in m n ≡ Some ss → rounds m n ≡ ss
-  in_rounds n ss = by (ended m) refl
+  in_rounds n ss e = let (r, is, held) = then_some (ended m) (within m n) ss e in by r (ended_is m r is) (nat_le r.0 n) refl held
     where
-      late : (r : ℕ × List S) → ended m ≡ Some r → (b : Bool) → nat_le r.0 n ≡ b → elim b [ true ↦ Some r.1 | false ↦ Some (rounds m n) ] ≡ Some ss → rounds m n ≡ ss
-      late r is true le e =
-          let s = ended_is m r is in
-          let same : r.1 ≡ ss = cc in
-          same_later r.0 n s.0 (leb-true _ _ le) ∙ (s.1 ∙ same)
-      late r is false le e = cc
-
-      by : (o : Option (ℕ × List S)) → ended m ≡ o → elim o [ None ↦ None | Some r ↦ elim (nat_le r.0 n) [ true ↦ Some r.1 | false ↦ Some (rounds m n) ] ] ≡ Some ss → rounds m n ≡ ss
-      by None is e = absurd (let no : ⊥ = cc in no)
-      by (Some r) is e = late r is (nat_le r.0 n) refl e
+      by : (r : ℕ × List S) → Settled m r → (b : Bool) → nat_le r.0 n ≡ b
+          → elim b [ true ↦ Some r.1 | false ↦ Some (rounds m n) ] ≡ Some ss → rounds m n ≡ ss
+      by r s true le e = let same : r.1 ≡ ss = cc in same_later r.0 n s.0 (leb-true _ _ le) ∙ (s.1 ∙ same)
+      by r s false le e = cc

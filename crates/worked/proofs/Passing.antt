@@ -18,7 +18,7 @@ use Rattle.job.specs.Histories.{Bar, loaded, after as after_calls}
 use Rattle.job.specs.States.{State}
 use Rattle.job.specs.Texts.{program_of}
 use Rattle.job.proofs.Readings.{reads_as}
-use Rattle.worked.specs.Claims.{Claim, Example, Holds, IsTrue, OfProgram, is_read, reads, refused, reaches, never, ends, present, absent, prints, plainly}
+use Rattle.worked.specs.Claims.{Claim, Example, RowHolds, IsTrue, OfProgram, is_read, reads, refused, reaches, never, ends, present, absent, prints, plainly}
 use Rattle.worked.proofs.Found as found
 use Rattle.worked.proofs.Told as told_of
 
@@ -61,14 +61,16 @@ granted_is : (r : Result Program Refusal) (f : Program → Bool) → granted r f
 granted_is (Ok p) f h = (p, refl, h)
 granted_is (Err e) f h = absurd (let no : ⊥ = cc in no)
 
-refused_is : (r : Result Program Refusal) (number line : ℕ) → refused_as r number line ≡ true → (e : Refusal) × (r ≡ Err e) × (number_of e.reason ≡ number) × (e.line ≡ line)
+refused_is : (r : Result Program Refusal) (number line : ℕ)
+    → refused_as r number line ≡ true → (e : Refusal) × (r ≡ Err e) × (number_of e.reason ≡ number) × (e.line ≡ line)
 refused_is (Ok p) number line h = absurd (let no : ⊥ = cc in no)
 refused_is (Err e) number line h =
     let both = and_parts (number_of e.reason == number) (e.line == line) h in
     (e, refl, eqb-true _ _ both.0, eqb-true _ _ both.1)
 
 module _ (text : List ℕ) where
-  of_program : (f : Program → Bool) (P : Program → Type 0) → ((p : Program) → f p ≡ true → P p) → passed (granted (program_of text) f) ≡ passed true → OfProgram text P
+  of_program : (f : Program → Bool) (P : Program → Type 0)
+      → ((p : Program) → f p ≡ true → P p) → passed (granted (program_of text) f) ≡ passed true → OfProgram text P
   of_program f P holds h =
       let (p, is, test) = granted_is (program_of text) f (let same : granted (program_of text) f ≡ true = cc in same) in
       (p, is, holds p test)
@@ -111,10 +113,10 @@ text_holds : (e : Example) (text : List ℕ) → map (got (program_of text)) e.c
 text_holds e text h =
     all_weaker (λ c. got (program_of text) c ≡ wanted c) (IsTrue text) (is_true text) e.claims (one_by_one (got (program_of text)) wanted e.claims h)
 
-row_holds : (e : Example) → row_got e ≡ row_wanted e → Holds e
+row_holds : (e : Example) → row_got e ≡ row_wanted e → RowHolds e
 row_holds e h =
     all_weaker (λ text. map (got (program_of text)) e.claims ≡ map wanted e.claims) (λ text. All (IsTrue text) e.claims) (text_holds e) e.texts
     (one_by_one (λ text. map (got (program_of text)) e.claims) (λ text. map wanted e.claims) e.texts h)
 
-pub rows_hold : (es : List Example) → Passed es → All Holds es
-rows_hold es h = all_weaker (λ e. row_got e ≡ row_wanted e) Holds row_holds es (one_by_one row_got row_wanted es h)
+pub rows_hold : (es : List Example) → Passed es → All RowHolds es
+rows_hold es h = all_weaker (λ e. row_got e ≡ row_wanted e) RowHolds row_holds es (one_by_one row_got row_wanted es h)

@@ -1,8 +1,8 @@
 -- What is claimed of the machines of a program is true where a test of what they reach is passed. Nothing is assumed.
 --   seen cs o          o is a picture of which all of cs hold
---   walk m o ns        where the steps ns lead from o
+--   walk m s ns        where the steps ns lead from s
 --   reach, never, ends, after    the tests
-use Rattle.std.proofs.Common.{◌≡◌, ℕ, Bool, true, false, not, ◌&&◌, ◌||◌, ◌==◌, List, [], ◌∷◌, length, Contains, Some, None, Option, option_map, is_some, refl, sym, ap, ◌∙◌, subst}
+use Rattle.std.proofs.Common.{◌≡◌, ℕ, Bool, true, false, not, ◌&&◌, ◌||◌, ◌==◌, List, [], ◌∷◌, length, Contains, Some, None, Option, is_some, refl, sym, ap, ◌∙◌, subst}
 use Rattle.std.specs.List.{list_all, list_any}
 use Rattle.std.proofs.lemmas.Bool.{and_parts, eqb-true, not-true}
 use Rattle.std.proofs.lemmas.List.Elements.{All-contains}
@@ -10,7 +10,6 @@ use Rattle.std.proofs.lemmas.List.Folds.{Any-from_list_any}
 use Rattle.std.proofs.lemmas.List.Sums.{AllPass-from_list_all}
 use Rattle.listing.specs.declared.code.Condition.{Condition}
 use Rattle.listing.specs.declared.program.Program.{Program}
-use Rattle.machines.specs.declared.machine.Taken.{Taken}
 use Rattle.machines.specs.declared.picture.Picture.{Picture}
 use Rattle.machines.specs.Buffered.{buffered, picture_of}
 use Rattle.machines.specs.Laws.{Lawful}
@@ -18,16 +17,15 @@ use Rattle.machines.specs.Machines.{Meaning, Run, stay, go, Shows}
 use Rattle.machines.specs.Pictures.{line_holds}
 use Rattle.machines.specs.lawful.Machines.{buffered_is_lawful}
 use Rattle.worked.specs.Claims.{Counted, Never, Ends, After}
-use Rattle.worked.proofs.Ended.{Held, all_held, ended, on, on_some}
+use Rattle.worked.proofs.Ended.{Held, all_held, ended, on, on_some, then, then_some}
 
 abbrev seen : List (Condition ℕ) → Option Picture → Bool
 seen cs None = false
 seen cs (Some q) = line_holds q cs
 
-abbrev walk : {S : Type 0} → Meaning S → Option S → List ℕ → Option S
-walk m o [] = o
-walk m None (n ∷ ns) = None
-walk m (Some s) (n ∷ ns) = walk m (option_map (λ t. t.after) (m.step s n)) ns
+abbrev walk : {S : Type 0} → Meaning S → S → List ℕ → Option S
+walk m s [] = Some s
+walk m s (n ∷ ns) = then (m.step s n) (λ t. walk m t.after ns)
 
 abbrev same : Bool → Bool → Bool
 same true b = b
@@ -50,7 +48,7 @@ abbrev pub ends : {S : Type 0} → Meaning S → List (Condition ℕ) → List (
 ends m cs ds = on (ended m) (met m cs ds)
 
 abbrev pub after : {S : Type 0} → Meaning S → List ℕ → ℕ → Bool → Bool
-after m ns n b = on (walk m (Some m.start) ns) (λ s. same b (is_some (m.step s n)))
+after m ns n b = on (walk m m.start ns) (λ s. same b (is_some (m.step s n)))
 
 module _ {S : Type 0} {p : Program} (m : Meaning S) (l : Lawful p m) where
   pub reach_is : (n : ℕ) → reach m n ≡ true → Counted m n
@@ -63,7 +61,8 @@ module _ {S : Type 0} {p : Program} (m : Meaning S) (l : Lawful p m) where
   passes f ss h s c = All-contains (λ x. f x ≡ true) ss s (AllPass-from_list_all f ss h) c
 
   -- a picture that is seen is shown
-  shown : (ss : List S) → Held m ss → (cs : List (Condition ℕ)) (s : S) (o : Option Picture) → Contains ss s → m.picture s ≡ o → seen cs o ≡ true → (q : Picture) × Shows m q × (line_holds q cs ≡ true)
+  shown : (ss : List S) → Held m ss → (cs : List (Condition ℕ)) (s : S) (o : Option Picture)
+      → Contains ss s → m.picture s ≡ o → seen cs o ≡ true → (q : Picture) × Shows m q × (line_holds q cs ≡ true)
   shown ss held cs s None c e h = absurd (let no : ⊥ = cc in no)
   shown ss held cs s (Some q) c e h = (q, record { standing = s; reached = (held.each s).1 c; seen = e }, h)
 
@@ -97,19 +96,13 @@ same_is true c h = h
 same_is false c h = not-true c h
 
 module _ {S : Type 0} (m : Meaning S) where
-  walk_is : (s e : S) (ns : List ℕ) → walk m (Some s) ns ≡ Some e → Run m s ns e
+  walk_is : (s e : S) (ns : List ℕ) → walk m s ns ≡ Some e → Run m s ns e
   walk_is s e [] h = let is : s ≡ e = cc in subst (Run m s []) is stay
-  walk_is s e (n ∷ ns) h = by (λ t. walk_is t.after e ns) (m.step s n) refl h
-    where
-      nowhere : (ns : List ℕ) → walk m None ns ≡ Some e → ⊥
-      nowhere [] h = cc
-      nowhere (n ∷ ns) h = cc
-
-      by : ((t : Taken S) → walk m (Some t.after) ns ≡ Some e → Run m t.after ns e) → (r : Option (Taken S)) → m.step s n ≡ r → walk m (option_map (λ t. t.after) r) ns ≡ Some e → Run m s (n ∷ ns) e
-      by further None is h = absurd (nowhere ns h)
-      by further (Some t) is h = go is (further t h)
+  walk_is s e (n ∷ ns) h =
+      let (t, is, rest) = then_some (m.step s n) (λ t. walk m t.after ns) e h in
+      go is (walk_is t.after e ns rest)
 
   pub after_is : (ns : List ℕ) (n : ℕ) (b : Bool) → after m ns n b ≡ true → After m ns n b
   after_is ns n b h =
-      let (s, is, there) = on_some (walk m (Some m.start) ns) (λ s. same b (is_some (m.step s n))) h in
+      let (s, is, there) = on_some (walk m m.start ns) (λ s. same b (is_some (m.step s n))) h in
       (s, walk_is m.start s ns is, same_is b _ there)

@@ -1,5 +1,5 @@
--- What a row of the table claims of texts, and what it means that a claim is true. What is claimed of a job is claimed of one for
--- the buffered machine.
+-- What a row of the table claims of texts, and what it means that a claim is true. The job that is spoken of is one for the
+-- buffered machine.
 use Rattle.std.specs.Prelude.{◌≡◌, ◌≢◌, ◌↔◌, ℕ, Bool, true, false, List, [], ◌∷◌, length, map, AllPairs, Contains, None, Ok, Err, Result}
 use Rattle.std.specs.List.{AllByRecursion as All}
 use Rattle.std.specs.Option.{is_some}
@@ -23,20 +23,27 @@ use Rattle.job.specs.States.{State}
 use Rattle.job.specs.Text.{line_of}
 use Rattle.job.specs.Texts.{program_of}
 
--- What may be claimed of a text: that it is read; that it is read as this program; that it is refused by this number at this line;
--- how many standings the buffered and the unbuffered machine reach; that some conditions never hold together; that these hold in
--- the end, and wherever they do those others do too; that after these steps the step of this number is present, or absent; that
--- with so many rows and these places barred solving prints this; and that the unbuffered machine is free of faults, or is not.
+-- what may be claimed of a text
 pub data Claim : Type 0 where
+  -- it is read
   is_read : Claim
+  -- it is read as this program
   reads : (program : Code) → Claim
+  -- it is refused by this number, at this line
   refused : (number line : ℕ) → Claim
-  reaches : (buffered_standings unbuffered_standings : ℕ) → Claim
-  never : (conditions : List (Condition ℕ)) → Claim
+  -- so many standings are reached by the buffered machine, and so many by the unbuffered one
+  reaches : (buffered unbuffered : ℕ) → Claim
+  -- these conditions never hold together, settled or not
+  never : (these : List (Condition ℕ)) → Claim
+  -- settled standings are reached at which all of these hold, and at each of them all of those do
   ends : (these those : List (Condition ℕ)) → Claim
+  -- after these steps the step of this number is present
   present : (steps : List ℕ) (number : ℕ) → Claim
+  -- or absent
   absent : (steps : List ℕ) (number : ℕ) → Claim
+  -- with these places barred, solving with so many rows prints this
   prints : (rows : ℕ) (barred : List ℕ) (bytes : List ℕ) → Claim
+  -- with so many rows, `plain` says that the unbuffered machine is free of faults, or writes a run
   plainly : (rows : ℕ) (free : Bool) → Claim
 
 -- the text is read, and this is true of its program
@@ -45,17 +52,19 @@ OfProgram text P = (p : Program) × (program_of text ≡ Ok p) × P p
 
 -- the text is refused by this number, at this line
 abbrev pub RefusedBy : List ℕ → ℕ → ℕ → Type 0
-RefusedBy text number line = (e : Refusal) × (reading text ≡ Err e) × (number_of e.reason ≡ number) × (e.line ≡ line)
+RefusedBy text number line =
+    (e : Refusal) × (reading text ≡ Err e) × (number_of e.reason ≡ number) × (e.line ≡ line)
 
 -- the machine reaches n standings
 abbrev pub Counted : {S : Type 0} → Meaning S → ℕ → Type 0
-Counted {S} m n = (ss : List S) × (length ss ≡ n) × AllPairs ◌≢◌ ss × ((s : S) → Reached m s ↔ Contains ss s)
+Counted {S} m n =
+    (ss : List S) × (length ss ≡ n) × AllPairs ◌≢◌ ss × ((s : S) → Reached m s ↔ Contains ss s)
 
 -- at no standing that the buffered machine reaches, settled or not, do all of these conditions hold
 abbrev pub Never : Program → List (Condition ℕ) → Type 0
 Never p cs = (s : Standing) → Reached (buffered p) s → line_holds (picture_of s) cs ≡ false
 
--- at some settled standing that the machine reaches all of these conditions hold, and at each such one all of those do
+-- at some settled standing that is reached all of these conditions hold, and at each such one all of those do
 abbrev pub Ends : {S : Type 0} → Meaning S → List (Condition ℕ) → List (Condition ℕ) → Type 0
 Ends m these those =
     ((q : Picture) × Shows m q × (line_holds q these ≡ true))
@@ -63,13 +72,14 @@ Ends m these those =
 
 -- these steps lead from the start to where the step of this number is present, or absent
 abbrev pub After : {S : Type 0} → Meaning S → List ℕ → ℕ → Bool → Type 0
-After {S} m steps number there = (s : S) × Run m m.start steps s × (is_some (m.step s number) ≡ there)
+After {S} m steps number there =
+    (s : S) × Run m m.start steps s × (is_some (m.step s number) ≡ there)
 
 -- what a new job holds once the text was read and then these places were barred
 abbrev pub job_of : List ℕ → List ℕ → State
 job_of text barred = after buffered (Read text ∷ map Bar barred) None
 
--- what is printed of an answer of `solve`: the report of what the job holds then, or the refusal's line
+-- what is printed of an answer of `solve`: the report of what the job then holds, or the refusal's line
 abbrev pub printed : Result Solution Refusal → State → List ℕ
 printed (Ok k) s = kept_text s
 printed (Err e) s = line_of e
@@ -97,5 +107,5 @@ pub record Example : Type 0 where
   pub claims : List Claim
 
 -- each claim of the row is true of each of its texts
-abbrev pub Holds : Example → Type 0
-Holds e = All (λ text. All (IsTrue text) e.claims) e.texts
+abbrev pub RowHolds : Example → Type 0
+RowHolds e = All (λ text. All (IsTrue text) e.claims) e.texts

@@ -12,6 +12,7 @@ use Rattle.worked.specs.Examples.{examples}
 use Rattle.worked.proofs.Passing.{Passed, rows_hold}
 use Rattle.worked.proofs.laws.examples_hold.Goals as goal
 
+-- the whole table by one computation; where it is refused, a shorter table shows which row is wrong
 rows : Passed examples
 unfolding program_of reading finished may_stand words lines variable_of register_of number operand instruction conditions form within_limits places_in report befores before decimal refusal ones ones_in count_trailing_zeros
 rows = refl
