@@ -1,0 +1,4 @@
+pub mod Ended
+pub mod Found
+pub mod Passing
+pub mod Told
