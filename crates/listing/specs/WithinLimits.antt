@@ -6,7 +6,8 @@ use Rattle.listing.specs.declared.code.Instruction.{Instruction}
 use Rattle.listing.specs.declared.code.Instruction.TheVariants.{Store, Load, Set, Add, Cas, Fence, Jump, JumpIfEqual, JumpUnlessEqual}
 use Rattle.listing.specs.declared.code.Operand.{Operand}
 use Rattle.listing.specs.declared.code.Operand.TheVariants.{Value, Register}
-use Rattle.listing.specs.Code.{Code}
+use Rattle.listing.specs.declared.program.Program.{Program}
+use Rattle.listing.specs.Code.{Code, code_of}
 use Rattle.listing.specs.Spelling.{keeps_limits}
 
 -- there are one or more, and no more than this
@@ -56,3 +57,7 @@ pub record Keeps (c : Code) : Type 0 where
 -- the limits that reading looks at are these
 abbrev pub LimitsAre : Type 0
 LimitsAre = (c : Code) → keeps_limits c ≡ true ↔ Keeps c
+
+-- and every program that exists keeps them
+abbrev pub ProgramsKeep : Type 0
+ProgramsKeep = (p : Program) → Keeps (code_of p)

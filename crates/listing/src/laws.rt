@@ -3,7 +3,7 @@ ghost use Rattle.listing.specs.Examples.{ExamplesRead};
 ghost use Rattle.listing.specs.Laws.{InReach, KnownByLists, ProgramsInReach};
 ghost use Rattle.listing.specs.Numbering.{PlacesCount, RegistersApart, VariablesApart};
 ghost use Rattle.listing.specs.Reasons.{NumbersAreTheTable};
-ghost use Rattle.listing.specs.WithinLimits.{LimitsAre};
+ghost use Rattle.listing.specs.WithinLimits.{LimitsAre, ProgramsKeep};
 
 // Does nothing: its contract names the laws.
 pub fn reading_stands()
@@ -16,6 +16,7 @@ pub fn reading_stands()
 // What a program keeps, and how its parts and the refusals are numbered.
 pub fn numbers_stand()
     ensures limits { LimitsAre }
+    ensures programs { ProgramsKeep }
     ensures places { PlacesCount }
     ensures registers { RegistersApart }
     ensures variables { VariablesApart }
