@@ -9,11 +9,11 @@ use Rattle.listing.specs.declared.code.Instruction.{Instruction}
 use Rattle.listing.specs.declared.code.Instruction.TheVariants.{Store, Load, Set, Add, Cas, Fence, Jump, JumpIfEqual, JumpUnlessEqual}
 use Rattle.listing.specs.declared.code.Operand.{Operand}
 use Rattle.listing.specs.declared.code.Operand.TheVariants.{Value, Register}
-use Rattle.listing.specs.Code.{Code}
+use Rattle.listing.specs.Code.{Code, code_of}
 use Rattle.listing.specs.Limits.{all, between, condition_there, fault_keeps, jump_within, thread_keeps, together, within_limits}
 use Rattle.listing.specs.Spelling.{keeps_limits}
 use Rattle.listing.specs.Values.{condition_fits, instruction_fits, operand_fits}
-use Rattle.listing.specs.WithinLimits.{OneTo, OperandKeeps, InstructionKeeps, ConditionKeeps, ThreadKeeps, FaultKeeps, Keeps, LimitsAre}
+use Rattle.listing.specs.WithinLimits.{OneTo, OperandKeeps, InstructionKeeps, ConditionKeeps, ThreadKeeps, FaultKeeps, Keeps, LimitsAre, ProgramsKeep}
 use Rattle.listing.proofs.Counts.{is_between}
 use Rattle.listing.proofs.Grown.{together_is}
 use Rattle.listing.proofs.Kept.{all_from_each, all_join, each}
@@ -172,3 +172,6 @@ limits_pass c k =
 
 pub limits_are : LimitsAre
 limits_are c = (limits_told c, limits_pass c)
+
+pub programs_keep : ProgramsKeep
+programs_keep p = limits_told (code_of p) p.ok

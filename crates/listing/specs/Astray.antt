@@ -14,5 +14,6 @@ pub data JumpsPast (many : ℕ) : Instruction ℕ → Type 0 where
 -- a condition on a thread that is not one of these, or on a place past that thread's end
 pub data NamesNone (threads : List (List (Instruction ℕ))) : Condition ℕ → Type 0 where
   at_no_thread : {t n : ℕ} → length threads ≤ t → NamesNone threads (At t n)
-  at_past_end : {t n : ℕ} {thread : _} → slice_get threads t ≡ Some thread → length thread < n → NamesNone threads (At t n)
+  at_past_end : {t n : ℕ} {thread : _}
+      → slice_get threads t ≡ Some thread → length thread < n → NamesNone threads (At t n)
   holds_no_thread : {t d : ℕ} {r : _} → length threads ≤ t → NamesNone threads (Holds t r d)

@@ -1,4 +1,4 @@
--- How the instructions of a listing are numbered: places are told by what comes first and what comes next, not by a sum.
+-- How instructions, registers and variables are numbered: places by what comes first and what comes next.
 use Rattle.std.specs.Prelude.{◌≡◌, ◌↔◌, ℕ, ◌+◌, ◌-◌, ◌<◌, List, Some, length, slice_get, sum_by}
 use Rattle.listing.specs.declared.code.Instruction.{Instruction}
 use Rattle.listing.specs.declared.code.Register.{Register}
@@ -24,7 +24,8 @@ pub record IsPlace (p : Program) (n t i : ℕ) : Type 0 where
   pub listed : Listed p t i
   pub is : place_of p t i ≡ n
 
--- Places count the instructions from the first one on, thread after thread, and each number below `places` is the place of one instruction.
+-- Places count the instructions from the first one on, thread after thread, and each number below
+-- `places` is the place of one instruction.
 pub record Counted (p : Program) : Type 0 where
   pub first : place_of p 0 0 ≡ 0
   pub next : (t i : ℕ) → Listed p t (i + 1) → place_of p t (i + 1) ≡ place_of p t i + 1

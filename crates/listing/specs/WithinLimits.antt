@@ -6,7 +6,8 @@ use Rattle.listing.specs.declared.code.Instruction.{Instruction}
 use Rattle.listing.specs.declared.code.Instruction.TheVariants.{Store, Load, Set, Add, Cas, Fence, Jump, JumpIfEqual, JumpUnlessEqual}
 use Rattle.listing.specs.declared.code.Operand.{Operand}
 use Rattle.listing.specs.declared.code.Operand.TheVariants.{Value, Register}
-use Rattle.listing.specs.Code.{Code}
+use Rattle.listing.specs.declared.program.Program.{Program}
+use Rattle.listing.specs.Code.{Code, code_of}
 use Rattle.listing.specs.Spelling.{keeps_limits}
 
 -- there are one or more, and no more than this
@@ -28,23 +29,28 @@ pub data InstructionKeeps (many : ℕ) : Instruction ℕ → Type 0 where
   fence : InstructionKeeps many Fence
   jump : {n : ℕ} → n ≤ many → InstructionKeeps many (Jump n)
   jump_if_equal : {r : _} {e : _} {n : ℕ} → OperandKeeps e → n ≤ many → InstructionKeeps many (JumpIfEqual r e n)
-  jump_unless_equal : {r : _} {e : _} {n : ℕ} → OperandKeeps e → n ≤ many → InstructionKeeps many (JumpUnlessEqual r e n)
+  jump_unless_equal : {r : _} {e : _} {n : ℕ}
+      → OperandKeeps e → n ≤ many → InstructionKeeps many (JumpUnlessEqual r e n)
 
 -- a condition beside these threads: it names one of them, and a place of that thread or its end
 pub data ConditionKeeps (threads : List (List (Instruction ℕ))) : Condition ℕ → Type 0 where
-  at : {t n : ℕ} {thread : _} → slice_get threads t ≡ Some thread → n ≤ length thread → ConditionKeeps threads (At t n)
+  at : {t n : ℕ} {thread : _}
+      → slice_get threads t ≡ Some thread → n ≤ length thread → ConditionKeeps threads (At t n)
   holds : {t d : ℕ} {r : _} → t < length threads → d ≤ 15 → ConditionKeeps threads (Holds t r d)
   memory : {d : ℕ} {v : _} → d ≤ 15 → ConditionKeeps threads (Memory v d)
 
+-- a thread has 1 to 16 instructions
 pub record ThreadKeeps (thread : List (Instruction ℕ)) : Type 0 where
   pub many : OneTo 16 (length thread)
   pub each : All (InstructionKeeps (length thread)) thread
 
+-- a fault line has one to six conditions
 pub record FaultKeeps (threads : List (List (Instruction ℕ))) (fault : List (Condition ℕ)) : Type 0 where
   pub many : OneTo 6 (length fault)
   pub each : All (ConditionKeeps threads) fault
 
--- a whole program
+-- A whole program: a bound of 1 to 4, one to four threads of at most 32 instructions together,
+-- and one to eight fault lines.
 pub record Keeps (c : Code) : Type 0 where
   pub bound : OneTo 4 c.bound
   pub threads : OneTo 4 (length c.threads)
@@ -56,3 +62,7 @@ pub record Keeps (c : Code) : Type 0 where
 -- the limits that reading looks at are these
 abbrev pub LimitsAre : Type 0
 LimitsAre = (c : Code) → keeps_limits c ≡ true ↔ Keeps c
+
+-- and every program that exists keeps them
+abbrev pub ProgramsKeep : Type 0
+ProgramsKeep = (p : Program) → Keeps (code_of p)

@@ -5,7 +5,7 @@ ghost use Rattle.listing.specs.LineLaws.{ByteTold, FormTold, NamesTold, OrderTol
 ghost use Rattle.listing.specs.Numbering.{PlacesCount, RegistersApart, VariablesApart};
 ghost use Rattle.listing.specs.Reading.{Progress};
 ghost use Rattle.listing.specs.Reasons.{NumbersAreTheTable};
-ghost use Rattle.listing.specs.WithinLimits.{LimitsAre};
+ghost use Rattle.listing.specs.WithinLimits.{LimitsAre, ProgramsKeep};
 
 // Does nothing: its contract names the laws. So do those below.
 pub fn reading_stands()
@@ -17,6 +17,7 @@ pub fn reading_stands()
 // What a program keeps, and how its parts and the refusals are numbered.
 pub fn numbers_stand()
     ensures limits { LimitsAre }
+    ensures programs { ProgramsKeep }
     ensures places { PlacesCount }
     ensures registers { RegistersApart }
     ensures variables { VariablesApart }
