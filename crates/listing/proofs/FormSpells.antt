@@ -1,4 +1,5 @@
 -- A line says what its words spell, and nothing else. Assumes nothing.
+--   line_ranges l                its numbers are in range, and a fault line has a condition
 --   SpellsOut items fits ws v   the words ws spell the items of v, which fits
 use Rattle.std.proofs.Common.{◌≡◌, ℕ, zero, suc, ◌≤◌, Bool, true, false, ◌&&◌, leb, List, [], ◌∷◌, length, codes, sym, refl, ap, subst, ⊎_elim, arith}
 use Rattle.std.proofs.lemmas.Bool.{and_parts, and_from, cases_Bool, le-leb}
@@ -8,14 +9,20 @@ use Rattle.listing.specs.declared.code.Condition.TheVariants as condition
 use Rattle.listing.specs.declared.code.Instruction.{Instruction}
 use Rattle.listing.specs.declared.code.Instruction.TheVariants as instructions
 use Rattle.listing.specs.Forms.{Says, no_form, means, apply, rest, instruction, more, conditions, fault, Line, bound_line, thread_line, instruction_line, fault_line, form}
-use Rattle.listing.specs.LineForms.{line_items, line_ranges}
-use Rattle.listing.specs.Limits.{all}
+use Rattle.listing.specs.LineForms.{line_items}
+use Rattle.listing.specs.Limits.{all, between}
 use Rattle.listing.specs.Names.{same_word, variable_word, register_word}
 use Rattle.listing.specs.Spelling.{Item, name, number, Spelled, Pairwise, instruction_items, condition_items}
 use Rattle.listing.specs.Values.{operand_fits, instruction_fits, condition_fits}
 use Rattle.listing.proofs.FormRows.{rest_shorter}
 use Rattle.listing.proofs.WordSpells.{Only, only_formless, only_meant, only_map, only_apply, same_word_eq, variable_reads, register_reads, number_reads, upto_reads, operand_reads}
 use Rattle.listing.proofs.WordsInTurn.{one_only, one_every, two_only, two_every, three_only, three_every, four_only, four_every, ended_only, ended_every, word_only, whole_only}
+
+abbrev pub line_ranges : Line → Bool
+line_ranges (bound_line k) = between 1 4 k
+line_ranges thread_line = true
+line_ranges (instruction_line i) = instruction_fits i
+line_ranges (fault_line cs) = leb 1 (length cs) && all condition_fits cs
 
 abbrev SpellsOut : {V : Type 0} → (V → List Item) → (V → Bool) → List (List ℕ) → V → Type 0
 SpellsOut items fits ws v = Pairwise Spelled (items v) ws × (fits v ≡ true)
@@ -80,7 +87,7 @@ more_every : (c : Condition ℕ) (cs : List (Condition ℕ)) (s : Says (Conditio
 more_every c cs s t h k = rw (h, k) refl
 
 -- the number of conditions that may follow is at least the number of words
-named_first : (Q : ℕ → List (List ℕ) → Type 0) (v : List ℕ) (is : List Item) (n : ℕ) (ws : List (List ℕ)) → length ws ≤ n → Pairwise Spelled (name v ∷ is) ws
+pub named_first : (Q : ℕ → List (List ℕ) → Type 0) (v : List ℕ) (is : List Item) (n : ℕ) (ws : List (List ℕ)) → length ws ≤ n → Pairwise Spelled (name v ∷ is) ws
     → ((m : ℕ) (us : List (List ℕ)) → length us ≤ m → Pairwise Spelled is us → Q (suc m) (v ∷ us)) → Q n ws
 named_first Q v is n [] l h k = absurd h
 named_first Q v is zero (w ∷ ws) l h k = absurd (omega arith)

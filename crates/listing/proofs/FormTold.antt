@@ -4,7 +4,8 @@ use Rattle.listing.specs.Forms.{Says, no_form, out_of_range, means}
 use Rattle.listing.specs.LineForms.{Part, this, variable, register, number, operand, of_bound, of_thread, of_instruction, of_fault, bound_form, thread_form, instruction_forms, fault_form, Fits, FitsInRange, HasForm, InRange}
 use Rattle.listing.specs.LineLaws.{FormTold}
 use Rattle.listing.specs.Spelling.{Pairwise}
-use Rattle.listing.proofs.FormSpells.{form_spelled, spelled_form}
+use Rattle.listing.proofs.Agreeing.{spelled_says}
+use Rattle.listing.proofs.FormSpells.{form_spelled}
 use Rattle.listing.proofs.FormsJudged.{form_judged}
 use Rattle.listing.proofs.OneOfMany.{one_of_map}
 use Rattle.listing.proofs.Pairs.{pairwise_weaker}
@@ -64,5 +65,8 @@ form_told w ws =
       formed = told.some;
       unranged = told.out;
       ranged = told.meaning;
-      says = λ l. (form_spelled w ws l, λ h. spelled_form l w ws h.1 h.0);
+      says = λ l. (
+        λ e. (told.meaning.0 (l, e), (form_spelled w ws l e).0),
+        λ h. let some = told.meaning.1 h.0 in spelled_says l some.0 w ws some.1 h.1,
+      );
     }

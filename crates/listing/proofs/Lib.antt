@@ -1,3 +1,4 @@
+pub mod Agreeing
 pub mod AlphabetTold
 pub mod Answered
 pub mod Astray

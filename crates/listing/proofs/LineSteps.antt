@@ -5,10 +5,10 @@ use Rattle.listing.specs.declared.code.Instruction.{Instruction}
 use Rattle.listing.specs.declared.code.Instruction.TheVariants as instruction
 use Rattle.listing.specs.Forms.{Says, no_form, out_of_range, means, Line, bound_line, thread_line, instruction_line, fault_line, form}
 use Rattle.listing.specs.Laws.{words_say}
-use Rattle.listing.specs.LineForms.{line_items, line_ranges}
+use Rattle.listing.specs.LineForms.{line_items}
 use Rattle.listing.specs.Reading.{Progress, bound_stands, thread_stands, instruction_stands, fault_stands, may_stand, room, with_line, held, worded}
 use Rattle.listing.specs.Spelling.{Spelled, Pairwise}
-use Rattle.listing.proofs.FormSpells.{form_spelled, spelled_form}
+use Rattle.listing.proofs.FormSpells.{line_ranges, form_spelled, spelled_form}
 use Rattle.listing.proofs.Results.{passed, went_on}
 use Rattle.listing.proofs.WordLines.{with_words, read_words}
 

@@ -5,13 +5,13 @@ use Rattle.std.proofs.lemmas.Bool.{and_parts, and_from, ltb-true, le-leb}
 use Rattle.listing.specs.declared.code.Condition.{Condition}
 use Rattle.listing.specs.declared.code.Instruction.{Instruction}
 use Rattle.listing.specs.Forms.{Line, bound_line, thread_line, instruction_line, fault_line}
-use Rattle.listing.specs.LineForms.{line_ranges}
 use Rattle.listing.specs.Limits.{all, bound_fits, together, fault_fits, thread_fits}
 use Rattle.listing.specs.Reading.{Progress, nothing, some, last_length, room, grown, with_line, read_lines}
 use Rattle.listing.specs.Spelling.{Pairwise}
 use Rattle.listing.specs.Values.{instruction_fits, condition_fits}
 use Rattle.listing.specs.Words.{content_of, words}
 use Rattle.listing.proofs.ByWords.{read_by_words, read_permitted}
+use Rattle.listing.proofs.FormSpells.{line_ranges}
 use Rattle.listing.proofs.Grown.{together_push, grown_length, grown_together, grown_as_long}
 use Rattle.listing.proofs.Kept.{all_push}
 use Rattle.listing.proofs.LineSteps.{stands, Taken, read_keeps}

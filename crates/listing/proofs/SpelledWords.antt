@@ -8,13 +8,14 @@ use Rattle.listing.specs.declared.code.Instruction.{Instruction}
 use Rattle.listing.specs.Code.{Code}
 use Rattle.listing.specs.Forms.{Line, bound_line, thread_line, instruction_line, fault_line}
 use Rattle.listing.proofs.Failing.{jumps_there}
-use Rattle.listing.specs.LineForms.{line_items, line_ranges}
+use Rattle.listing.specs.LineForms.{line_items}
 use Rattle.listing.specs.Limits.{all, between, together, condition_there, thread_keeps, fault_keeps, fault_fits}
 use Rattle.listing.specs.Reading.{Progress, nothing, some, last_length, room, grown, with_line, first_failing, target_failing, targeted, complete, filled, finished}
 use Rattle.listing.specs.Spelling.{Item, Spelled, Pairwise, instruction_items, thread_rows, fault_row, rows, keeps_limits}
 use Rattle.listing.specs.Values.{instruction_fits, condition_fits}
 use Rattle.listing.proofs.Counts.{at_most, has_some, some_last}
 use Rattle.listing.proofs.Failing.{none_fails, no_jump_fails}
+use Rattle.listing.proofs.FormSpells.{line_ranges}
 use Rattle.listing.proofs.Grown.{together_push, last_length_push, grown_push}
 use Rattle.listing.proofs.Kept.{all_weaker}
 use Rattle.listing.proofs.LineSteps.{stands, takes}

@@ -6,15 +6,15 @@ use Rattle.listing.specs.declared.code.Instruction.TheVariants as instructions
 use Rattle.listing.specs.declared.refusal.Reason.{Reason}
 use Rattle.listing.specs.declared.refusal.Reason.TheVariants.{ByteNotPermitted, NoForm, NumberOutOfRange, TooMany}
 use Rattle.listing.specs.Alphabet.{Foreign}
-use Rattle.listing.specs.Forms.{Says, Line, bound_line, thread_line, instruction_line, fault_line, form}
+use Rattle.listing.specs.Forms.{Says, means, Line, bound_line, thread_line, instruction_line, fault_line, form}
 use Rattle.listing.specs.Laws.{Formless, Unranged, Crowded, FirstBroken}
-use Rattle.listing.specs.LineForms.{HasForm, InRange, SayLine}
+use Rattle.listing.specs.LineForms.{HasForm, InRange, SpellLine}
 use Rattle.listing.specs.Limits.{all}
 use Rattle.listing.specs.Reading.{Progress, nothing, refusal, may_stand, room, held, standing, worded, line, read_lines}
 use Rattle.listing.specs.Spelling.{Spelled, Pairwise, instruction_items}
 use Rattle.listing.specs.Words.{permitted, content_of, words}
+use Rattle.listing.proofs.Agreeing.{spelled_says}
 use Rattle.listing.proofs.ForeignTold.{foreign_told}
-use Rattle.listing.proofs.FormSpells.{spelled_form}
 use Rattle.listing.proofs.FormsJudged.{form_judged}
 use Rattle.listing.proofs.OrderTold.{it_may, order_told}
 use Rattle.listing.proofs.Results.{went_on}
@@ -29,6 +29,15 @@ module _ (p : Progress) (w : List ℕ) (ws : List (List ℕ)) where
   pub standing_there : (Formless p (w ∷ ws) → ⊥) → may_stand p w ≡ true
   standing_there h =
       ⊎_elim (λ stands. stands) (λ astray. absurd (h (inr (λ may. let stands = it_may p w may in cc)))) (cases_Bool (may_stand p w))
+
+  -- words that break neither rule say something
+  meaning : (Formless p (w ∷ ws) → ⊥) → (Unranged (w ∷ ws) → ⊥) → (l : Line) × (form w ws ≡ means l)
+  meaning h k = by (form w ws) refl (form_judged w ws)
+    where
+      by : (s : Says Line) → form w ws ≡ s → Tells (HasForm (w ∷ ws)) (InRange (w ∷ ws)) s → (l : Line) × (form w ws ≡ means l)
+      by s e (formless none) = absurd (h (inl none))
+      by s e (unranged has out) = absurd (k out)
+      by s e (meant {x} has ranged) = (x, e)
 
   module _ (n : ℕ) where
     formless_refused : Formless p (w ∷ ws) → worded p n (w ∷ ws) ≡ Err (refusal NoForm n)
@@ -48,9 +57,10 @@ module _ (p : Progress) (w : List ℕ) (ws : List (List ℕ)) where
         by (unranged has _) = refl
         by (meant has ranged) = absurd (out ranged)
 
-    crowded_refused : (Formless p (w ∷ ws) → ⊥) → Crowded p (w ∷ ws) → worded p n (w ∷ ws) ≡ Err (refusal TooMany n)
-    crowded_refused h full =
-        rw (standing_there h, spelled_form full.0 w ws full.1.0.1 full.1.0.0) (cond-false (room p full.0) _ _ (((order_told p).too_much full.0).1 full.1.1))
+    crowded_refused : (Formless p (w ∷ ws) → ⊥) → (Unranged (w ∷ ws) → ⊥) → Crowded p (w ∷ ws) → worded p n (w ∷ ws) ≡ Err (refusal TooMany n)
+    crowded_refused h k full =
+        let some = meaning h k in
+        rw (standing_there h, spelled_says full.0 some.0 w ws some.1 full.1.0) (cond-false (room p full.0) _ _ (((order_told p).too_much full.0).1 full.1.1))
 
 module _ (p : Progress) (n : ℕ) where
   clean : (bs : List ℕ) → (Foreign bs → ⊥) → line p n bs ≡ worded p n (words (content_of bs))
@@ -64,10 +74,10 @@ module _ (p : Progress) (n : ℕ) where
   words_unranged [] h k = absurd k
   words_unranged (w ∷ ws) h k = unranged_refused p w ws n h k
 
-  no_words : (l : Line) → SayLine [] l → ⊥
-  no_words (bound_line k) h = h.0
-  no_words thread_line h = h.0
-  no_words (instruction_line i) h = by i h.0
+  no_words : (l : Line) → SpellLine [] l → ⊥
+  no_words (bound_line k) h = h
+  no_words thread_line h = h
+  no_words (instruction_line i) h = by i h
     where
       by : (i : Instruction ℕ) → Pairwise Spelled (instruction_items i) [] → ⊥
       by (instructions.Store v e) h = h
@@ -79,17 +89,17 @@ module _ (p : Progress) (n : ℕ) where
       by (instructions.Jump m) h = h
       by (instructions.JumpIfEqual r e m) h = h
       by (instructions.JumpUnlessEqual r e m) h = h
-  no_words (fault_line cs) h = h.0
+  no_words (fault_line cs) h = h
 
-  words_crowded : (ws : List (List ℕ)) → (Formless p ws → ⊥) → Crowded p ws → worded p n ws ≡ Err (refusal TooMany n)
-  words_crowded [] h k = absurd (no_words k.0 k.1.0)
-  words_crowded (w ∷ ws) h k = crowded_refused p w ws n h k
+  words_crowded : (ws : List (List ℕ)) → (Formless p ws → ⊥) → (Unranged ws → ⊥) → Crowded p ws → worded p n ws ≡ Err (refusal TooMany n)
+  words_crowded [] h k full = absurd (no_words full.0 full.1.0)
+  words_crowded (w ∷ ws) h k full = crowded_refused p w ws n h k full
 
   pub broken_refused : (why : Reason) (bs : List ℕ) → FirstBroken why p bs → line p n bs ≡ Err (refusal why n)
   broken_refused ByteNotPermitted bs h = cond-false (all permitted (content_of bs)) _ _ ((foreign_told bs).1 h)
   broken_refused NoForm bs h = clean bs h.0 ∙ words_formless (words (content_of bs)) h.1
   broken_refused NumberOutOfRange bs h = clean bs h.0 ∙ words_unranged (words (content_of bs)) h.1.0 h.1.1
-  broken_refused TooMany bs h = clean bs h.0 ∙ words_crowded (words (content_of bs)) h.1.0 h.1.1.1
+  broken_refused TooMany bs h = clean bs h.0 ∙ words_crowded (words (content_of bs)) h.1.0 h.1.1.0 h.1.1.1
   broken_refused _ bs h = absurd h
 
 -- a line that has been read, after what the lines before it hold

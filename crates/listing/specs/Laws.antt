@@ -27,7 +27,7 @@ use Rattle.listing.specs.Alphabet.{Foreign}
 use Rattle.listing.specs.Astray.{JumpsPast, NamesNone}
 use Rattle.listing.specs.Code.{Code, code_of}
 use Rattle.listing.specs.Forms.{Says, no_form, means, Line, bound_line, thread_line, instruction_line, fault_line, form}
-use Rattle.listing.specs.LineForms.{HasForm, InRange, SayLine}
+use Rattle.listing.specs.LineForms.{HasForm, InRange, SpellLine}
 use Rattle.listing.specs.LineOrder.{MayStand, IsTooMuch}
 use Rattle.listing.specs.Limits.{all}
 use Rattle.listing.specs.Reading.{reading, refusal, Progress, nothing, some, read_lines}
@@ -59,7 +59,7 @@ Unranged (w ∷ ws) = InRange (w ∷ ws) → ⊥
 
 -- what the words add is one too many
 abbrev pub Crowded : Progress → List (List ℕ) → Type 0
-Crowded p ws = (l : Line) × (SayLine ws l × IsTooMuch p l)
+Crowded p ws = (l : Line) × (SpellLine ws l × IsTooMuch p l)
 
 -- the line breaks this rule, and none that comes earlier in the order
 abbrev pub FirstBroken : Reason → Progress → List ℕ → Type 0

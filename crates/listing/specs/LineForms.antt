@@ -1,12 +1,10 @@
 -- The forms of a line, and which words have one. By its form a number may be any word of digits; its range is asked apart.
-use Rattle.std.specs.Prelude.{◌≡◌, ℕ, ◌≤◌, Bool, true, ◌&&◌, ◌⊎◌, List, [], ◌∷◌, length, codes, nat_le}
+use Rattle.std.specs.Prelude.{◌≡◌, ℕ, ◌≤◌, ◌⊎◌, List, [], ◌∷◌, length, codes}
 use Rattle.std.specs.List.{AllByRecursion as All, flat_map}
 use Rattle.listing.specs.Alphabet.{OneOf, IsOneOf, digits}
 use Rattle.listing.specs.Forms.{Line, bound_line, thread_line, instruction_line, fault_line}
-use Rattle.listing.specs.Limits.{all, between}
 use Rattle.listing.specs.Spelling.{Item, Spelled, Pairwise, Writes, instruction_items, fault_row}
 use Rattle.listing.specs.Spelling as spelling
-use Rattle.listing.specs.Values.{instruction_fits, condition_fits}
 
 -- what may stand as one word of a line: this very word, a variable, a register, a number from low to high, or an operand, which is
 -- a register or a value
@@ -116,13 +114,6 @@ line_items thread_line = spelling.name (codes "thread") ∷ []
 line_items (instruction_line i) = instruction_items i
 line_items (fault_line cs) = fault_row cs
 
--- the numbers of a line lie in their ranges, and a fault line has a condition
-abbrev pub line_ranges : Line → Bool
-line_ranges (bound_line k) = between 1 4 k
-line_ranges thread_line = true
-line_ranges (instruction_line i) = instruction_fits i
-line_ranges (fault_line cs) = nat_le 1 (length cs) && all condition_fits cs
-
--- the words say the line
-abbrev pub SayLine : List (List ℕ) → Line → Type 0
-SayLine ws l = Pairwise Spelled (line_items l) ws × (line_ranges l ≡ true)
+-- the words spell the line, each number in one or two digits
+abbrev pub SpellLine : List (List ℕ) → Line → Type 0
+SpellLine ws l = Pairwise Spelled (line_items l) ws

@@ -5,7 +5,7 @@ use Rattle.listing.specs.declared.code.Variable.{Variable}
 use Rattle.listing.specs.Alphabet.{IsOneOf, letters, digits, spaces, comment_signs, alphabet, Foreign}
 use Rattle.listing.specs.Code.{index, slot}
 use Rattle.listing.specs.Forms.{Line, no_form, out_of_range, means, form}
-use Rattle.listing.specs.LineForms.{HasForm, InRange, SayLine}
+use Rattle.listing.specs.LineForms.{HasForm, InRange, SpellLine}
 use Rattle.listing.specs.LineOrder.{MayStand, IsTooMuch}
 use Rattle.listing.specs.Names.{variable_word, register_word}
 use Rattle.listing.specs.Reading.{Progress, may_stand, room}
@@ -36,7 +36,7 @@ pub record FormTold (w : List ℕ) (ws : List (List ℕ)) : Type 0 where
   pub formed : (form w ws ≢ no_form) ↔ HasForm (w ∷ ws)
   pub unranged : (form w ws ≡ out_of_range) ↔ (HasForm (w ∷ ws) × (InRange (w ∷ ws) → ⊥))
   pub ranged : ((l : Line) × (form w ws ≡ means l)) ↔ InRange (w ∷ ws)
-  pub says : (l : Line) → (form w ws ≡ means l) ↔ SayLine (w ∷ ws) l
+  pub says : (l : Line) → (form w ws ≡ means l) ↔ (InRange (w ∷ ws) × SpellLine (w ∷ ws) l)
 
 -- whether a line may stand after what has been read, and whether there is room for what it adds
 pub record OrderTold (p : Progress) : Type 0 where

@@ -15,7 +15,7 @@ Begins w (part ∷ form) = Fits part w
 
 -- after what p holds a line may stand whose first word is w
 pub data MayStand (p : Progress) (w : List ℕ) : Type 0 where
-  -- the bound, before anything else
+  -- the bound, once: all other lines ask for one before them, so it comes first
   bound_first : w ≡ codes "bound" → p.bound ≡ None → MayStand p w
   -- a thread, after the bound and before the fault lines
   thread_next : w ≡ codes "thread" → (k : ℕ) → p.bound ≡ Some k → p.faults ≡ [] → MayStand p w
