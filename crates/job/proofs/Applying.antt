@@ -9,8 +9,9 @@ use Rattle.machines.specs.Machines.{Meaning}
 use Rattle.machines.specs.Places.{has}
 use Rattle.machines.specs.Unbuffered.{unbuffered}
 use Rattle.search.specs.Faults.{FaultRun, KeepsTo, TooMany}
+use Rattle.search.specs.Refusals.{ByLowest, Refused}
 use Rattle.job.specs.Checks.{declined}
-use Rattle.job.specs.Refusals.{BarApplies, FreeApplies, PlainApplies, ReportApplies, LineApplies, SolveApplies, TestApplies, ShowApplies, ByLowest, Holding, Missing, NotKept, Refused}
+use Rattle.job.specs.Refusals.{BarApplies, FreeApplies, PlainApplies, ReportApplies, LineApplies, SolveApplies, TestApplies, ShowApplies, HasNumber, Holding, Missing, NotKept}
 use Rattle.job.specs.States.{Held, State, open_places}
 
 -- which refusals apply to a call, each by itself; those that are not named never do
@@ -77,7 +78,7 @@ pub record ByReason {X : Type 0} (Applies : Reason → Type 0) (r : Result X Ref
 abbrev Same : (Reason → Type 0) → (ℕ → Type 0) → Type 0
 Same R N = (n : ℕ) → N n ↔ ((why : Reason) × (number_of why ≡ n) × R why)
 
-pub numbered : {X : Type 0} {r : Result X Refusal} (R : Reason → Type 0) (N : ℕ → Type 0) → Same R N → ByReason R r → ByLowest N r
+pub numbered : {X : Type 0} {r : Result X Refusal} (R : Reason → Type 0) (N : ℕ → Type 0) → Same R N → ByReason R r → ByLowest HasNumber N r
 numbered {r = r} R N same l = record {
   refused = λ n. (to n, from n);
   granted = (
@@ -89,21 +90,20 @@ numbered {r = r} R N same l = record {
     lowest : (n : ℕ) → Type 0
     lowest n = N n × ((other : ℕ) → N other → n ≤ other)
 
-    to : (n : ℕ) → Refused n r → N n × ((other : ℕ) → N other → n ≤ other)
+    to : (n : ℕ) → Refused HasNumber n r → N n × ((other : ℕ) → N other → n ≤ other)
     to n f =
         let why = f.refusal.reason in
-        let is : r ≡ Err (declined why) = f.answered ∙ ap (λ l. Err (record { reason = why; line = l })) f.line in
+        let is : r ≡ Err (declined why) = f.answered ∙ ap (λ l. Err (record { reason = why; line = l })) f.number.1 in
         let a = (l.refused why).0 is in
-        ((same n).1 (why, f.number, a.0), λ other b. let w = (same other).0 b in omega (arith, a.1 w.0 w.2, f.number, w.1))
+        ((same n).1 (why, f.number.0, a.0), λ other b. let w = (same other).0 b in omega (arith, a.1 w.0 w.2, f.number.0, w.1))
 
-    from : (n : ℕ) → N n × ((other : ℕ) → N other → n ≤ other) → Refused n r
+    from : (n : ℕ) → N n × ((other : ℕ) → N other → n ≤ other) → Refused HasNumber n r
     from n a =
         let w = (same n).0 a.0 in
         record {
           refusal = declined w.0;
           answered = (l.refused w.0).1 (w.2, λ other b. omega (arith, a.1 (number_of other) ((same (number_of other)).1 (other, refl, b)), w.1));
-          number = w.1;
-          line = refl;
+          number = (w.1, refl);
         }
 
 pub bar_same : (s : State) (q : ℕ) → Same (BarBy s q) (BarApplies s q)

@@ -26,7 +26,7 @@ use Rattle.job.proofs.Applying.{ByReason, BarBy, FreeBy, SolveBy, TestBy, ShowBy
 use Rattle.job.specs.States.{Held, State, open_places}
 use Rattle.job.proofs.Keeping.{open_small}
 use Rattle.job.proofs.Listed.{behind, in_front}
-use Rattle.job.proofs.Readings.{first_wrong}
+use Rattle.job.proofs.Readings.{read_ordered}
 use Rattle.job.proofs.Lowest.{Raised, lowest, refused_by, granted_by}
 
 -- of what is held alone
@@ -282,7 +282,7 @@ module _ {S : Type 0} (M : Program → Meaning S) (lawful : (p : Program) → La
 
   pub in_order : (s : State) → InOrder M s
   in_order s = record {
-    read = first_wrong;
+    read = read_ordered;
     bar = λ q. numbered (BarBy s q) (BarApplies s q) (bar_same s q) (of_bar s q);
     free = λ q. numbered (FreeBy s q) (FreeApplies s q) (free_same s q) (of_free s q);
     solve = λ rows. numbered (SolveBy M s rows) (SolveApplies M s rows) (solve_same M s rows) (of_solve s rows);

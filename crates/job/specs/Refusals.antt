@@ -1,17 +1,17 @@
 -- Which refusals apply to a call, each said by itself; the call is refused by the lowest number that applies, and granted when none does.
-use Rattle.std.specs.Prelude.{◌≡◌, ◌↔◌, ℕ, ◌≤◌, ◌<◌, true, false, List, length, Some, None, Ok, Err, Result, Contains}
+use Rattle.std.specs.Prelude.{◌≡◌, ◌↔◌, ℕ, ◌≤◌, ◌<◌, true, false, List, length, Some, None, Ok, Err, Result, Contains, sum_by}
 use Rattle.listing.specs.declared.program.Program.{Program}
 use Rattle.listing.specs.declared.refusal.Refusal.{Refusal}
-use Rattle.listing.specs.Code.{code_of, places}
-use Rattle.listing.specs.Laws.{FirstWrong}
-use Rattle.listing.specs.Reading.{told}
+use Rattle.listing.specs.Code.{places}
+use Rattle.listing.specs.Laws.{Wrong}
 use Rattle.listing.specs.Reasons.{number_of}
 use Rattle.machines.specs.Machines.{Meaning}
 use Rattle.machines.specs.Places.{has}
 use Rattle.machines.specs.Unbuffered.{unbuffered}
 use Rattle.search.specs.Faults.{FaultRun, KeepsTo, TooMany}
+use Rattle.search.specs.Refusals.{ByLowest}
 use Rattle.job.specs.declared.solution.Solution.{Solution}
-use Rattle.job.specs.Answers.{bar_answer, free_answer, solve_answer, test_verdict, show_verdict, plain_verdict, report_answer}
+use Rattle.job.specs.Answers.{read_answer, bar_answer, free_answer, solve_answer, test_verdict, show_verdict, plain_verdict, report_answer}
 use Rattle.job.specs.Lent.{after_line}
 use Rattle.job.specs.States.{Held, State, open_places}
 use Rattle.job.specs.Texts.{program_of}
@@ -71,7 +71,8 @@ module _ {S : Type 0} (M : Program → Meaning S) where
     no_program : s ≡ None → SolveApplies s rows 8
     too_few_rows : Holding s (λ h. TooMany (M h.program) rows) → SolveApplies s rows 14
     -- some fault run keeps to all open places
-    none_enough : Holding s (λ h. (ns : List ℕ) × FaultRun h.program (M h.program) ns × KeepsTo (M h.program) ns (open_places h)) → SolveApplies s rows 15
+    none_enough : Holding s (λ h. (ns : List ℕ) × FaultRun h.program (M h.program) ns × KeepsTo (M h.program) ns (open_places h))
+        → SolveApplies s rows 15
 
   -- of `test`
   pub data TestApplies (s : State) (qs : List ℕ) (rows run : ℕ) : ℕ → Type 0 where
@@ -90,26 +91,23 @@ module _ {S : Type 0} (M : Program → Meaning S) where
     not_kept : Holding s (NotKept q) → ShowApplies s q rows run 13
     too_few_rows : Holding s (λ h. TooMany (M h.program) rows) → ShowApplies s q rows run 14
 
--- the answer is the refusal of this number, at line 0
-pub record Refused {X : Type 0} (n : ℕ) (r : Result X Refusal) : Type 0 where
-  pub refusal : Refusal
-  pub answered : r ≡ Err refusal
-  pub number : number_of refusal.reason ≡ n
-  pub line : refusal.line ≡ 0
+-- the number of a refusal at line 0
+abbrev pub HasNumber : Refusal → ℕ → Type 0
+HasNumber e n = (number_of e.reason ≡ n) × (e.line ≡ 0)
 
--- an answer by the rules of which each says of a number whether it applies
-pub record ByLowest {X : Type 0} (Applies : ℕ → Type 0) (r : Result X Refusal) : Type 0 where
-  pub refused : (n : ℕ) → Refused n r ↔ (Applies n × ((other : ℕ) → Applies other → n ≤ other))
-  pub granted : ((x : X) × (r ≡ Ok x)) ↔ ((n : ℕ) → Applies n → ⊥)
+-- an answer of `read`: the refusal is the first thing that is wrong with the text; else it is the number of instructions
+pub record ByFirstWrong (text : List ℕ) (r : Result ℕ Refusal) : Type 0 where
+  pub refused : (e : Refusal) → (r ≡ Err e) ↔ Wrong text e
+  pub granted : (n : ℕ) → (r ≡ Ok n) ↔ ((p : Program) × (program_of text ≡ Ok p) × (n ≡ sum_by length p.threads))
 
--- of every call; a text is refused by the first thing that is wrong with it
+-- of every call
 pub record InOrder {S : Type 0} (M : Program → Meaning S) (s : State) : Type 0 where
-  pub read : (text : List ℕ) → FirstWrong text (told code_of (program_of text))
-  pub bar : (q : ℕ) → ByLowest (BarApplies s q) (bar_answer s q)
-  pub free : (q : ℕ) → ByLowest (FreeApplies s q) (free_answer s q)
-  pub solve : (rows : ℕ) → ByLowest (SolveApplies M s rows) (solve_answer M s rows)
-  pub test : (qs : List ℕ) (rows run : ℕ) → ByLowest (TestApplies M s qs rows run) (test_verdict M s qs rows run)
-  pub show : (q rows run : ℕ) → ByLowest (ShowApplies M s q rows run) (show_verdict M s q rows run)
-  pub plain : (rows run : ℕ) → ByLowest (PlainApplies s rows run) (plain_verdict s rows run)
-  pub report : (long : ℕ) → ByLowest (ReportApplies s long) (report_answer s long)
-  pub line : (e : Refusal) (out : List ℕ) → ByLowest (LineApplies (length out)) (after_line e out).0
+  pub read : (text : List ℕ) → ByFirstWrong text (read_answer text)
+  pub bar : (q : ℕ) → ByLowest HasNumber (BarApplies s q) (bar_answer s q)
+  pub free : (q : ℕ) → ByLowest HasNumber (FreeApplies s q) (free_answer s q)
+  pub solve : (rows : ℕ) → ByLowest HasNumber (SolveApplies M s rows) (solve_answer M s rows)
+  pub test : (qs : List ℕ) (rows run : ℕ) → ByLowest HasNumber (TestApplies M s qs rows run) (test_verdict M s qs rows run)
+  pub show : (q rows run : ℕ) → ByLowest HasNumber (ShowApplies M s q rows run) (show_verdict M s q rows run)
+  pub plain : (rows run : ℕ) → ByLowest HasNumber (PlainApplies s rows run) (plain_verdict s rows run)
+  pub report : (long : ℕ) → ByLowest HasNumber (ReportApplies s long) (report_answer s long)
+  pub line : (e : Refusal) (out : List ℕ) → ByLowest HasNumber (LineApplies (length out)) (after_line e out).0

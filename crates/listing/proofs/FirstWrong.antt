@@ -39,12 +39,12 @@ module _ (p : Progress) (n : ℕ) (bs : List ℕ) (e : Refusal) (ours : Foreign 
   held_breaks w ws no_form are is (formless none) stands h = (NoForm, (cc, (ours, rw are (inl none))))
   held_breaks w ws out_of_range are is (unranged has out) stands h =
       let fine = not_formless p w ws has stands in
-      (NumberOutOfRange, (cc, (ours, rw are (fine, out))))
+      (NumberOutOfRange, (cc, (ours, rw are (fine, (has, out)))))
   held_breaks w ws (means l) are is (meant has ranged) stands h =
       let fine = not_formless p w ws has stands in
       refused (room p l) (Ok (with_line p n l)) (refusal TooMany n) e h
       (λ fits k. cc)
-      (λ full why. (TooMany, (why, (ours, rw are (fine, (λ out. out ranged, (l, ((form_spelled w ws l is).0, ((order_told p).too_much l).0 full))))))))
+      (λ full why. (TooMany, (why, (ours, rw are (fine, (λ out. out.1 ranged, (l, ((form_spelled w ws l is).0, ((order_told p).too_much l).0 full))))))))
 
   worded_breaks : (ws : List (List ℕ)) → words (content_of bs) ≡ ws → worded p n ws ≡ Err e → LineBreaks p n bs e
   worded_breaks [] are h = cc

@@ -25,6 +25,7 @@ pub mod Kept
 pub mod Laid
 pub mod LineSteps
 pub mod LinesHeld
+pub mod LinesTold
 pub mod NamesTold
 pub mod NextLine
 pub mod NextWord

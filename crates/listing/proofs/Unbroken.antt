@@ -36,7 +36,7 @@ module _ (p : Progress) (w : List ℕ) (ws : List (List ℕ)) where
     where
       by : (s : Says Line) → form w ws ≡ s → Tells (HasForm (w ∷ ws)) (InRange (w ∷ ws)) s → (l : Line) × (form w ws ≡ means l)
       by s e (formless none) = absurd (h (inl none))
-      by s e (unranged has out) = absurd (k out)
+      by s e (unranged has out) = absurd (k (has, out))
       by s e (meant {x} has ranged) = (x, e)
 
   module _ (n : ℕ) where
@@ -55,7 +55,7 @@ module _ (p : Progress) (w : List ℕ) (ws : List (List ℕ)) where
         by : {s : Says Line} → Tells (HasForm (w ∷ ws)) (InRange (w ∷ ws)) s → held p n s ≡ Err (refusal NumberOutOfRange n)
         by (formless none) = absurd (h (inl none))
         by (unranged has _) = refl
-        by (meant has ranged) = absurd (out ranged)
+        by (meant has ranged) = absurd (out.1 ranged)
 
     crowded_refused : (Formless p (w ∷ ws) → ⊥) → (Unranged (w ∷ ws) → ⊥) → Crowded p (w ∷ ws) → worded p n (w ∷ ws) ≡ Err (refusal TooMany n)
     crowded_refused h k full =

@@ -1,4 +1,4 @@
--- Which bytes may stand outside a comment, and what ends a line.
+-- Which bytes may stand outside a comment, and which begins one.
 use Rattle.std.specs.Prelude.{◌≡◌, ℕ, ◌⊎◌, List, [], ◌∷◌, ◌++◌, codes}
 
 -- P holds of one of these

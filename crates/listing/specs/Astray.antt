@@ -11,7 +11,7 @@ pub data JumpsPast (many : ℕ) : Instruction ℕ → Type 0 where
   jump_if_equal : {r : _} {e : _} {n : ℕ} → many < n → JumpsPast many (JumpIfEqual r e n)
   jump_unless_equal : {r : _} {e : _} {n : ℕ} → many < n → JumpsPast many (JumpUnlessEqual r e n)
 
--- a condition on a thread that is not one of these, or on a place past that thread's end
+-- a condition on a thread that is not one of these, or on an instruction past that thread's end
 pub data NamesNone (threads : List (List (Instruction ℕ))) : Condition ℕ → Type 0 where
   at_no_thread : {t n : ℕ} → length threads ≤ t → NamesNone threads (At t n)
   at_past_end : {t n : ℕ} {thread : _}

@@ -12,7 +12,7 @@
 --   Lined ls p         p holds what the lines ls say, in their order
 --   Fine ls p          every line of ls is fine by the rules of a line, and p is what they hold
 --   EmptyOn p n        a thread without instructions begins on line n
---   AstrayOn p n       line n names a place or a thread that is not there, in a jump (JumpAstrayOn) or in a condition (FaultAstrayOn)
+--   AstrayOn p n       line n names an instruction or a thread that is not there, in a jump (JumpAstrayOn) or in a condition (FaultAstrayOn)
 --   First P n          n is the first line at which P holds
 --   Wrong t e          the first thing wrong with t, by the reason and the line of e: it is too_long, or has a broken_line, an empty_thread,
 --                      is lacking a thread or a fault line, or something in it is astray
@@ -52,10 +52,10 @@ abbrev pub Formless : Progress → List (List ℕ) → Type 0
 Formless p [] = ⊥
 Formless p (w ∷ ws) = (HasForm (w ∷ ws) → ⊥) ⊎ (MayStand p w → ⊥)
 
--- a number among the words is out of its range
+-- the words have a form, and a number among them is out of its range
 abbrev pub Unranged : List (List ℕ) → Type 0
 Unranged [] = ⊥
-Unranged (w ∷ ws) = InRange (w ∷ ws) → ⊥
+Unranged (w ∷ ws) = HasForm (w ∷ ws) × (InRange (w ∷ ws) → ⊥)
 
 -- what the words add is one too many
 abbrev pub Crowded : Progress → List (List ℕ) → Type 0
@@ -132,7 +132,7 @@ EmptyOn p n = Somewhere (λ m is. (m ≡ n) × (is ≡ [])) p.thread_lines p.thr
 abbrev pub JumpAstrayOn : Progress → ℕ → Type 0
 JumpAstrayOn p n = Somewhere (λ ms is. Somewhere (λ m i. (m ≡ n) × JumpsPast (length is) i) ms is) p.instruction_lines p.threads
 
--- line n has a condition on a thread that is not there, or on a place past its length
+-- line n has a condition on a thread that is not there, or on an instruction past its length
 abbrev pub FaultAstrayOn : Progress → ℕ → Type 0
 FaultAstrayOn p n = Somewhere (λ m cs. (m ≡ n) × Any (NamesNone p.threads) cs) p.fault_lines p.faults
 

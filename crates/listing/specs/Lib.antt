@@ -16,6 +16,7 @@ pub mod Reading
 pub mod Reasons
 pub mod Spelling
 pub mod Taking
+pub mod TextLines
 pub mod Values
 pub mod WithinLimits
 pub mod Words

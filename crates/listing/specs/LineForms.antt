@@ -15,13 +15,15 @@ pub data Part : Type 0 where
   number : (low high : ℕ) → Part
   operand : Part
 
--- the value of a word or a register; the number of an instruction; the number of a thread
+-- what a variable or a register may hold
 abbrev pub value : Part
 value = number 0 15
 
+-- the number of an instruction within its thread, or the thread's end
 abbrev pub target : Part
 target = number 0 16
 
+-- the number of a thread
 abbrev pub thread : Part
 thread = number 0 3
 

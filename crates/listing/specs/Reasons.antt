@@ -31,7 +31,7 @@ table =
     ∷ (4, reason.NumberOutOfRange)  -- a number has more than two digits, or is outside its range
     ∷ (5, reason.TooMany)  -- a thread, an instruction, a fault line or a condition is one too many
     ∷ (6, reason.Missing)  -- a thread is empty, or there is no thread or no fault line
-    ∷ (7, reason.TargetMissing)  -- a jump leads past its thread, or a condition names a thread or a place that is not there
+    ∷ (7, reason.TargetMissing)  -- a jump leads past its thread's end, or a condition names a thread that is not there or past whose end it stands
     ∷ (8, reason.NoProgram)  -- no program has been read
     ∷ (9, reason.PlaceMissing)  -- the program has no such place
     ∷ (10, reason.AlreadySo)  -- the place is barred already, or free already

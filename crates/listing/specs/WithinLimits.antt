@@ -32,7 +32,7 @@ pub data InstructionKeeps (many : ℕ) : Instruction ℕ → Type 0 where
   jump_unless_equal : {r : _} {e : _} {n : ℕ}
       → OperandKeeps e → n ≤ many → InstructionKeeps many (JumpUnlessEqual r e n)
 
--- a condition beside these threads: it names one of them, and a place of that thread or its end
+-- a condition beside these threads: it names one of them, and an instruction of that thread or its end
 pub data ConditionKeeps (threads : List (List (Instruction ℕ))) : Condition ℕ → Type 0 where
   at : {t n : ℕ} {thread : _}
       → slice_get threads t ≡ Some thread → n ≤ length thread → ConditionKeeps threads (At t n)
@@ -59,7 +59,7 @@ pub record Keeps (c : Code) : Type 0 where
   pub faults : OneTo 8 (length c.faults)
   pub each_fault : All (FaultKeeps c.threads) c.faults
 
--- the limits that reading looks at are these
+-- the limits that every program keeps by its type are these
 abbrev pub LimitsAre : Type 0
 LimitsAre = (c : Code) → keeps_limits c ≡ true ↔ Keeps c
 

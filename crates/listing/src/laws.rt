@@ -5,6 +5,7 @@ ghost use Rattle.listing.specs.LineLaws.{ByteTold, FormTold, NamesTold, OrderTol
 ghost use Rattle.listing.specs.Numbering.{PlacesCount, RegistersApart, VariablesApart};
 ghost use Rattle.listing.specs.Reading.{Progress};
 ghost use Rattle.listing.specs.Reasons.{NumbersAreTheTable};
+ghost use Rattle.listing.specs.TextLines.{LinesTold};
 ghost use Rattle.listing.specs.WithinLimits.{LimitsAre, ProgramsKeep};
 
 // Does nothing: its contract names the laws. So do those below.
@@ -24,8 +25,9 @@ pub fn numbers_stand()
     ensures refusals { NumbersAreTheTable }
 {}
 
-// The rules of one line: which bytes it may have, which forms there are, and which line may stand where.
+// The lines of a text, and the rules of one line: which bytes it may have, which forms there are, and which line may stand where.
 pub fn lines_are_told()
+    ensures lines { (text : List ℕ) → LinesTold text }
     ensures bytes { (b : ℕ) → ByteTold b }
     ensures names { NamesTold }
     ensures words { (bs : List ℕ) → WordsTold bs }

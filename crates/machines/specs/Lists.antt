@@ -1,4 +1,4 @@
--- What stands at a place of a list, and a list changed at one place, by relations that compute nothing.
+-- What stands at an index of a list, and a list changed at one index, by relations that compute nothing.
 use Rattle.std.specs.Prelude.{ℕ, suc, List, ◌∷◌}
 
 -- x stands at i in the list xs, counted from 0

@@ -3,7 +3,7 @@ ghost use Rattle.std.specs.Prelude.{◌≡◌, ◌==◌, Decides};
 ghost use Rattle.listing.specs.declared.code.Variable.{Variable};
 ghost use Rattle.listing.specs.declared.program.Program.{Program};
 ghost use Rattle.listing.specs.Code.{index};
-ghost use Rattle.machines.specs.Bounds.{BufferedBounded, UnbufferedBounded};
+ghost use Rattle.machines.specs.Bounds.{BufferedBounded, FencedBounded, UnbufferedBounded};
 ghost use Rattle.machines.specs.Buffered.{buffered};
 ghost use Rattle.machines.specs.FaultRules.{FaultsAreTold, ShownFaultsAreTold};
 ghost use Rattle.machines.specs.Follows.{InOrder, OneThread, OnlyByLanding, ReadsOwn, WaitsAlone, WithinBound};
@@ -69,10 +69,11 @@ pub fn rules_are_kept()
     ensures bound { WithinBound }
 {}
 
-// At every standing that a run reaches, settled or not, all values are at most 15, and no thread stands past its length.
+// At every standing that a run reaches, settled or not, whatever places are fenced, all values are at most 15, and no thread stands past its length.
 pub fn values_are_bounded()
     ensures unbuffered { UnbufferedBounded }
     ensures buffered { BufferedBounded }
+    ensures fenced { FencedBounded }
 {}
 
 // A picture is told a fault exactly when it is one: when every condition of some fault line holds.

@@ -33,11 +33,11 @@ pub data Claim : Type 0 where
   refused : (number line : ℕ) → Claim
   -- so many standings are reached by the buffered machine, and so many by the unbuffered one
   reaches : (buffered unbuffered : ℕ) → Claim
-  -- these conditions never hold together, settled or not
+  -- at no standing of the buffered machine, settled or not, do these hold together
   never : (these : List (Condition ℕ)) → Claim
-  -- settled standings are reached at which all of these hold, and at each of them all of those do
+  -- it reaches settled standings at which all of these hold, and at each of them all of those do
   ends : (these those : List (Condition ℕ)) → Claim
-  -- after these steps the step of this number is present
+  -- after these steps of it the step of this number is present
   present : (steps : List ℕ) (number : ℕ) → Claim
   -- or absent
   absent : (steps : List ℕ) (number : ℕ) → Claim

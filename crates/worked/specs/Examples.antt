@@ -1,4 +1,4 @@
--- The table of worked examples, in three parts. What it claims was worked out by hand from the rules.
+-- The table of worked examples, in three parts.
 use Rattle.std.specs.Prelude.{ℕ, true, false, List, [], ◌∷◌, ◌++◌, map, replicate, codes}
 use Rattle.std.specs.List.{AllByRecursion as All, flat_map}
 use Prim.Native.String.{String}
@@ -17,7 +17,7 @@ row text claims = record { texts = text ∷ []; claims = claims }
 abbrev each : Claim → List (List ℕ) → Example
 each claim texts = record { texts = texts; claims = claim ∷ [] }
 
--- listings of which these are line 3, the one instruction, or line 4, the fault line
+-- listings whose line 3, the first of the thread, begins so, or whose line 4, the first after the thread
 abbrev with_instruction : List String → List (List ℕ)
 with_instruction lines =
     map (λ s. codes "bound 1\nthread\n" ++ (codes s ++ codes "\nfault mem a 2\n")) lines
@@ -25,10 +25,11 @@ with_instruction lines =
 abbrev with_fault : List String → List (List ℕ)
 with_fault lines = map (λ s. codes "bound 1\nthread\nfence\n" ++ (codes s ++ codes "\n")) lines
 
--- a listing whose threads have so many instructions each, all `fence`, and m fault lines of n conditions
+-- a text so many times
 abbrev times : ℕ → List ℕ → List ℕ
 times n text = flat_map (λ t. t) (replicate n text)
 
+-- a listing whose threads have so many instructions each, all `fence`, and m fault lines of n conditions
 abbrev sized : List ℕ → ℕ → ℕ → List ℕ
 sized threads m n =
     codes "bound 1\n"
@@ -67,7 +68,7 @@ program_of_every_form =
 -- What is read, and what is refused: at the first line that is wrong, by the first rule that it breaks.
 abbrev pub readings : List Example
 readings =
-    -- each form of a line, with numbers at both ends of their ranges
+    -- each form of a line; T is 0 and 3, N 0 and 16, a value 0 and 15
     row every_form (reads program_of_every_form ∷ [])
     -- a zero in front, more spaces, lines without words, comments with any bytes, no line end at the end
     ∷ row (codes " bound 01 # K:\tZ\n\n#\n   \nthread\n  store   a  07\nfault mem a 2#!")
@@ -77,6 +78,9 @@ readings =
       threads = (Store A (Value 7) ∷ []) ∷ [];
       faults = (Memory A 2 ∷ []) ∷ [];
     }) ∷ [])
+    -- a jump goes to the end of its thread, and a condition asks for it
+    ∷ each is_read (with_instruction ("fence\njump 2" ∷ "fence\njeq r0 0 2" ∷ "fence\njne r0 0 2" ∷ []))
+    ∷ each is_read (with_fault ("fault at 0 1" ∷ []))
     -- four threads, 16 instructions in one and 32 in all, eight fault lines of six conditions
     ∷ row (sized (16 ∷ 14 ∷ 1 ∷ 1 ∷ []) 8 6) (is_read ∷ [])
     -- one more of each; in the first of these texts threads are empty as well
@@ -88,42 +92,48 @@ readings =
     -- a number is out of its range or has three digits; the last fault line has seven conditions as well
     ∷ each (refused 4 1) (codes "bound 0\n" ∷ codes "bound 5\n" ∷ codes "bound 004\n" ∷ [])
     ∷ each (refused 4 3) (with_instruction
-    ("store a 16" ∷ "cas r0 a 0 16" ∷ "set r0 007" ∷ "jump 17" ∷ []))
+    ("store a 16" ∷ "set r0 16" ∷ "add r0 16" ∷ "cas r0 a 16 0" ∷ "cas r0 a 0 16" ∷ "set r0 007"
+    ∷ "jeq r0 16 0" ∷ "jne r0 16 0" ∷ "jump 17" ∷ "jeq r0 0 17" ∷ "jne r0 0 17" ∷ []))
     ∷ each (refused 4 4) (with_fault
-    ("fault at 4 0" ∷ "fault at 0 17" ∷ "fault reg 0 r0 16"
+    ("fault at 4 0" ∷ "fault at 0 17" ∷ "fault reg 4 r0 0" ∷ "fault reg 0 r0 16" ∷ "fault mem a 16"
     ∷ "fault mem a 1 mem a 1 mem a 1 mem a 1 mem a 1 mem a 1 mem a 16" ∷ []))
-    -- a jump goes past its thread's length, or a condition names what is not there
-    ∷ each (refused 7 3) (with_instruction ("jump 2" ∷ "jeq r0 0 2" ∷ "jne r0 0 16" ∷ []))
+    -- a jump goes past its thread's end, or a condition names what is not there; of two such lines the first is named
+    ∷ each (refused 7 4) (with_instruction
+    ("fence\njump 3" ∷ "fence\njeq r0 0 3" ∷ "fence\njne r0 0 3" ∷ "jump 2\njne r0 0 16\nfault at 1 0" ∷ []))
     ∷ each (refused 7 4) (with_fault
     ("fault at 0 2" ∷ "fault at 1 0" ∷ "fault mem a 1 reg 1 r0 0" ∷ []))
     -- a word is misspelt, one too many or missing; the last instruction has a number out of range as well
     ∷ each (refused 3 3) (with_instruction
-    ("stor a 1" ∷ "load r4 a" ∷ "store i 1" ∷ "fence 1" ∷ "load r0" ∷ "store a 16 1" ∷ []))
+    ("stor a 1" ∷ "load r4 a" ∷ "store i 1" ∷ "fence 1" ∷ "load r0" ∷ "store z 1" ∷ "store a 16 1" ∷ []))
     ∷ each (refused 3 4) (with_fault ("fault" ∷ "fault at 0" ∷ "fault mem a 1 2" ∷ []))
     -- a line may not stand there: before the bound, a second bound, in no thread, after a fault line
     ∷ each (refused 3 1) (codes "thread\nbound 1\n" ∷ codes "fault mem a 1\n" ∷ [])
     ∷ each (refused 3 2) (codes "bound 1\nbound 1\n" ∷ codes "bound 1\nfence\n" ∷ [])
     ∷ each (refused 3 5) (with_fault ("fault mem a 1\nthread\nfence" ∷ "fault mem a 1\nfence" ∷ []))
-    -- a byte is not permitted; the last of these instructions is no form as well
+    -- a byte is not permitted; none of these instructions has a form either
     ∷ each (refused 2 3) (with_instruction ("Store a 1" ∷ "store\ta 1" ∷ "add r0 -1" ∷ []))
-    -- a thread is empty; in the second of these texts a jump goes too far as well
+    -- a thread is empty; in the second of these texts another one is, and in the third a jump goes too far as well
     ∷ each (refused 6 4) (codes "bound 1\nthread\nfence\nthread\nfault mem a 1\n"
+    ∷ codes "bound 1\nthread\nfence\nthread\nthread\nfault mem a 1\n"
     ∷ codes "bound 1\nthread\njump 2\nthread\nfault mem a 1\n" ∷ [])
     -- there is no thread, no fault line, or neither
     ∷ each (refused 6 0) (codes "bound 1\nfault mem a 1\n" ∷ codes "bound 1\nthread\nfence\n"
     ∷ [] ∷ replicate 4096 32 ∷ [])
     -- there is one byte too many
     ∷ row (replicate 4097 32) (refused 1 0 ∷ [])
-    -- two lines are wrong
+    -- lines without words count; of two lines that are wrong the first is named
+    ∷ row (codes "bound 1\n\n# c\nthread\nstor a 1\n") (refused 3 5 ∷ [])
     ∷ row (codes "bound 1\nthread\nstore a 16\nStore a 1\n") (refused 4 3 ∷ [])
     ∷ []
 
--- What the machines do. Step 0 is the next instruction of thread 0, step 1 takes its oldest waiting write to memory.
+-- What the machines do. On the buffered machine step 0 is the next instruction of thread 0, step 1 takes its oldest waiting write
+-- to memory; steps 2 and 3 are those of thread 1.
 abbrev pub runs : List Example
 runs =
-    -- a thread reads what it has written, before others can
+    -- a thread reads what it has written; no step is present where no write waits, and none at the thread's end
     row (codes "bound 1\nthread\nstore a 1\nload r0 a\nfault mem a 2\n")
-    (never (At 0 2 ∷ Holds 0 R0 0 ∷ []) ∷ ends (At 0 2 ∷ []) (Holds 0 R0 1 ∷ Memory A 1 ∷ []) ∷ [])
+    (never (At 0 2 ∷ Holds 0 R0 0 ∷ []) ∷ ends (At 0 2 ∷ []) (Holds 0 R0 1 ∷ Memory A 1 ∷ [])
+    ∷ absent [] 1 ∷ present (0 ∷ []) 1 ∷ absent (0 ∷ 1 ∷ 0 ∷ []) 0 ∷ [])
     -- it reads the newest of two waiting writes; a third store has to wait
     ∷ row (codes "bound 2\nthread\nstore a 1\nstore a 2\nload r0 a\nstore a 3\nfault mem a 4\n")
     (present (0 ∷ []) 0 ∷ absent (0 ∷ 0 ∷ 0 ∷ []) 0 ∷ present (0 ∷ 0 ∷ 0 ∷ 1 ∷ []) 0
@@ -160,6 +170,8 @@ solutions =
     row (codes "bound 1\nthread\nstore a 1\nfault mem a 2\n")
     (reaches 3 2 ∷ prints 3 [] (codes "fences 0\n")
     ∷ prints 2 [] (codes "refused 14 line 0\n") ∷ prints 0 [] (codes "refused 14 line 0\n") ∷ [])
+    -- while a write waits, what is seen is no fault
+    ∷ row (codes "bound 1\nthread\nstore a 1\nfault at 0 1 mem a 0\n") (plainly 512 true ∷ prints 512 [] (codes "fences 0\n") ∷ [])
     -- no fence keeps out a fault that the unbuffered machine has
     ∷ row (codes "bound 1\nthread\nstore a 1\nfault mem a 1\n")
     (plainly 512 false ∷ prints 512 [] (codes "refused 15 line 0\n") ∷ [])
@@ -167,7 +179,7 @@ solutions =
     ∷ row
     (codes "bound 1\nthread\nstore a 1\nload r0 b\nthread\nstore b 1\nload r0 a\n"
     ++ codes "fault at 0 2 at 1 2 reg 0 r0 0 reg 1 r0 0\n")
-    (reaches 34 13
+    (reaches 34 13 ∷ present [] 2 ∷ absent [] 3 ∷ present (2 ∷ []) 3 ∷ absent [] 4
     ∷ ends (At 0 2 ∷ At 1 2 ∷ Holds 0 R0 0 ∷ Holds 1 R0 0 ∷ []) (Memory A 1 ∷ Memory B 1 ∷ [])
     ∷ plainly 512 true
     ∷ prints 512 [] (codes "fences 2\nbefore 0 1\nbefore 1 1\n")
