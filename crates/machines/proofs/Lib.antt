@@ -11,6 +11,7 @@ pub mod Newest
 pub mod Rounded
 pub mod RuleSteps
 pub mod Sets
+pub mod Settling
 pub mod SharedSteps
 pub mod Starting
 pub mod UnbufferedRuled

@@ -11,6 +11,7 @@ pub mod Places
 pub mod Queues
 pub mod Rounds
 pub mod Rules
+pub mod Settled
 pub mod Shapes
 pub mod SharedRules
 pub mod Start

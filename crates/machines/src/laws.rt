@@ -12,6 +12,7 @@ ghost use Rattle.machines.specs.Machines.{leaving_out};
 ghost use Rattle.machines.specs.Pictures.{start};
 ghost use Rattle.machines.specs.Places.{has, SetLaws};
 ghost use Rattle.machines.specs.Rules.{ByConfiguration, ByRules};
+ghost use Rattle.machines.specs.Settled.{BufferedSettles, UnbufferedSettles};
 ghost use Rattle.machines.specs.Start.{AllAtRest, StartsAtRest};
 ghost use Rattle.machines.specs.Unbuffered.{unbuffered};
 ghost use Rattle.machines.specs.UnbufferedRules.{UnbufferedByRules};
@@ -69,7 +70,14 @@ pub fn rules_are_kept()
     ensures bound { WithinBound }
 {}
 
-// At every standing that a run reaches, settled or not, whatever places are fenced, all values are at most 15, and no thread stands past its length.
+// The buffered machine shows a picture exactly where nothing waits, and the other one everywhere.
+pub fn standings_settle()
+    ensures buffered { BufferedSettles }
+    ensures unbuffered { UnbufferedSettles }
+{}
+
+// At every standing that a run reaches, settled or not, whatever places are fenced, all values are at most 15, and no thread
+// stands past its length.
 pub fn values_are_bounded()
     ensures unbuffered { UnbufferedBounded }
     ensures buffered { BufferedBounded }
