@@ -1,6 +1,6 @@
 -- The forms of a line, and which words have one. By its form a number may be any word of digits; its range is asked apart.
 use Rattle.std.specs.Prelude.{◌≡◌, ℕ, ◌≤◌, ◌⊎◌, List, [], ◌∷◌, length, codes}
-use Rattle.std.specs.List.{AllByRecursion as All, flat_map}
+use Rattle.std.specs.List.{AllByRecursion, flat_map}
 use Rattle.listing.specs.Alphabet.{OneOf, IsOneOf, digits}
 use Rattle.listing.specs.Forms.{Line, bound_line, thread_line, instruction_line, fault_line}
 use Rattle.listing.specs.Spelling.{Item, Spelled, Pairwise, Writes, instruction_items, fault_row}
@@ -65,7 +65,7 @@ pub data Formed (R : Part → List ℕ → Type 0) (ws : List (List ℕ)) : Type
   of_thread : Pairwise R thread_form ws → Formed R ws
   of_instruction : OneOf (λ f. Pairwise R f ws) instruction_forms → Formed R ws
   -- a fault line has one condition or more
-  of_fault : (cs : List (List Part)) → 1 ≤ length cs → All (IsOneOf condition_forms) cs
+  of_fault : (cs : List (List Part)) → 1 ≤ length cs → AllByRecursion (IsOneOf condition_forms) cs
       → Pairwise R (fault_form cs) ws → Formed R ws
 
 -- the words of the variables
@@ -79,7 +79,7 @@ registers = codes "r0" ∷ codes "r1" ∷ codes "r2" ∷ codes "r3" ∷ []
 
 -- a word of digits, however many
 abbrev pub IsNumber : List ℕ → Type 0
-IsNumber w = All (IsOneOf digits) w
+IsNumber w = AllByRecursion (IsOneOf digits) w
 
 -- a number in one or two digits, from low to high
 abbrev pub IsNumberWithin : ℕ → ℕ → List ℕ → Type 0

@@ -1,7 +1,7 @@
 -- What a row of the table claims of texts, and what it means that a claim is true. The job that is spoken of is one for the
 -- buffered machine.
 use Rattle.std.specs.Prelude.{◌≡◌, ◌≢◌, ◌↔◌, ℕ, Bool, true, false, List, [], ◌∷◌, length, map, AllPairs, Contains, None, Ok, Err, Result}
-use Rattle.std.specs.List.{AllByRecursion as All}
+use Rattle.std.specs.List.{AllByRecursion}
 use Rattle.std.specs.Option.{is_some}
 use Rattle.listing.specs.declared.code.Condition.{Condition}
 use Rattle.listing.specs.declared.program.Program.{Program}
@@ -108,4 +108,4 @@ pub record Example : Type 0 where
 
 -- each claim of the row is true of each of its texts
 abbrev pub RowHolds : Example → Type 0
-RowHolds e = All (λ text. All (IsTrue text) e.claims) e.texts
+RowHolds e = AllByRecursion (λ text. AllByRecursion (IsTrue text) e.claims) e.texts

@@ -1,6 +1,6 @@
 -- The table of worked examples, in three parts.
 use Rattle.std.specs.Prelude.{ℕ, true, false, List, [], ◌∷◌, ◌++◌, map, replicate, codes}
-use Rattle.std.specs.List.{AllByRecursion as All, flat_map}
+use Rattle.std.specs.List.{AllByRecursion, flat_map}
 use Prim.Native.String.{String}
 use Rattle.listing.specs.declared.code.Condition.TheVariants.{At, Holds, Memory}
 use Rattle.listing.specs.declared.code.Instruction.TheVariants.{Store, Load, Set, Add, Cas, Fence, Jump, JumpIfEqual, JumpUnlessEqual}
@@ -202,4 +202,4 @@ examples = readings ++ (runs ++ solutions)
 
 -- every row of the table holds
 abbrev pub ExamplesHold : Type 0
-ExamplesHold = All RowHolds examples
+ExamplesHold = AllByRecursion RowHolds examples
