@@ -11,7 +11,7 @@ use Rattle.listing.specs.Reading.{told}
 use Rattle.listing.proofs.Numbering.{places_count}
 use Rattle.machines.specs.Laws.{Lawful}
 use Rattle.machines.specs.Machines.{Meaning}
-use Rattle.machines.specs.Places.{has}
+use Rattle.machines.specs.Places.{has, removing}
 use Rattle.machines.specs.Unbuffered.{unbuffered}
 use Rattle.search.specs.Answers.{Breaks}
 use Rattle.search.specs.Enough.{enough, fits, rows_lent}
@@ -20,16 +20,17 @@ use Rattle.job.specs.declared.call.Answer.TheVariants as answer
 use Rattle.job.specs.declared.call.Call.{Call}
 use Rattle.job.specs.declared.call.Call.TheVariants as call
 use Rattle.job.specs.declared.solution.Solution.{Solution}
-use Rattle.job.specs.Answers.{Verdict, places_of, plain_verdict, read_answer, test_verdict, show_verdict, bar_answer, free_answer, solve_answer, report_answer, report_of}
+use Rattle.job.specs.Answers.{Verdict, places_of, plain_verdict, read_answer, test_verdict, show_verdict, bar_answer, free_answer, solve_answer, report_answer, report_of, others}
 use Rattle.job.specs.Calls.{Lists, outcome}
 use Rattle.job.specs.Checks.{Checks, report_checks, set_of, unless_refused}
-use Rattle.job.specs.Gives.{CallsRefused, GivesRun, HasPlaces, Prints, Reads, RefusedAs, Runs, Writes}
+use Rattle.job.specs.Gives.{CallsLeave, CallsRefused, GivesRun, HasPlaces, Prints, Reads, RefusedAs, Runs, Writes}
 use Rattle.job.specs.Lent.{Lent, kept_text, run_left, text_left, verdict_answer}
 use Rattle.job.specs.Refusals.{ByLowest, Refused}
 use Rattle.job.specs.States.{Held, State}
 use Rattle.job.specs.Text.{line_of, placed, report}
 use Rattle.job.specs.Texts.{program_of}
 use Rattle.job.proofs.Judging.{granted}
+use Rattle.job.proofs.Leaving.{never_enough}
 use Rattle.job.proofs.Listed.{has_these}
 use Rattle.job.proofs.Ordering.{in_order}
 use Rattle.job.proofs.Readings.{first_wrong}
@@ -107,6 +108,10 @@ in_run_list : (v : Verdict) (ns old : List ℕ) (n : ℕ) → v ≡ Ok false →
 in_run_list v ns old n is long =
     ap (λ x. take n (run_left x ns old)) is ∙ (ap (λ k. take k (ns ++ drop (length ns) old)) long ∙ take-append_seam ns (drop (length ns) old))
 
+by_shown : (v : Verdict) (long n : ℕ) → ((b : Bool) → v ≡ Ok b → b ≡ false) → told (λ _. long) v ≡ Ok n → (v ≡ Ok false) × (n ≡ long)
+by_shown (Ok b) long n never e = let same : n ≡ long = cc in (ap Ok (never b refl), same)
+by_shown (Err w) long n never e = let no : ⊥ = cc in absurd no
+
 module _ {S : Type 0} (M : Program → Meaning S) where
   pub runs : (h : Held) → Runs M h
   runs h = record {
@@ -125,6 +130,12 @@ module _ {S : Type 0} (M : Program → Meaning S) where
           long = f.1;
           written = in_run_list v free.run old.run n f.0 f.1;
         };
+    show = λ k q old free n kept run e.
+        let rows = rows_lent old.rows old.notes in
+        let v = show_verdict M (Some h) q rows (length old.run) in
+        let f = by_shown v (length free.run) n (never_enough M (Some h) q rows (length old.run)) e in
+        let b : Breaks h.program (M h.program) rows (removing k.places.mask q) free.run = subst (λ o. Breaks h.program (M h.program) rows (others o q) free.run) kept (run f.0) in
+        record { steps = free.run; fault = b.fault; keeps = b.keeps; once = b.once; long = f.1; written = in_run_list v free.run old.run n f.0 f.1 };
     plain = λ old free n run e.
         let v = plain_verdict (Some h) (rows_lent old.rows old.notes) (length old.run) in
         let f = by_run v free.run n e in
@@ -132,7 +143,7 @@ module _ {S : Type 0} (M : Program → Meaning S) where
         record {
           steps = free.run;
           fault = b.fault;
-          keeps = λ q crossed none. absurd (omega (arith, none.1));
+          keeps = tt;
           once = b.once;
           long = f.1;
           written = in_run_list v free.run old.run n f.0 f.1;
@@ -203,3 +214,14 @@ module _ {S : Type 0} (M : Program → Meaning S) (lawful : (p : Program) → La
       carried v _ (alike_verdict answer.Plain v free.run) ((in_order M lawful s).plain n (length l.run))
   calls_refused s call.Look l free = refl
   calls_refused s call.Report l free = carried (report_answer s (length l.out)) _ (alike_told answer.Reported (report_answer s (length l.out))) ((in_order M lawful s).report (length l.out))
+
+pub calls_leave : {S : Type 0} (M : Program → Meaning S) → CallsLeave M
+calls_leave M s (call.Read text) l free = refl
+calls_leave M s (call.Bar q) l free = refl
+calls_leave M s (call.Free q) l free = refl
+calls_leave M s call.Solve l free = refl
+calls_leave M s (call.Test qs) l free = refl
+calls_leave M s (call.Show q) l free = refl
+calls_leave M s call.Plain l free = refl
+calls_leave M s call.Look l free = refl
+calls_leave M s call.Report l free = refl

@@ -2,7 +2,7 @@
 ghost use Rattle.std.specs.Prelude.{◌≡◌};
 ghost use Rattle.job.specs.Changes.{Changes, OpenPlaces, Seen};
 ghost use Rattle.job.specs.Checks.{HasThese};
-ghost use Rattle.job.specs.Gives.{CallsRefused, Prints, Reads, Runs};
+ghost use Rattle.job.specs.Gives.{CallsLeave, CallsRefused, Prints, Reads, Runs};
 ghost use Rattle.job.specs.Promises.{Always};
 ghost use Rattle.job.specs.Refusals.{InOrder};
 ghost use Rattle.job.specs.Reports.{Printing};
@@ -46,13 +46,14 @@ pub fn lowest_number_first<K: Kind>()
     ensures { (s : State) → InOrder (λ p. K.means (K.made p)) s }
 {}
 
-/// What a call gives: how many places were read, the run that `test` and `plain` write, and the bytes of a report and of a refusal's
-/// line, past which all is as it was. And as a value each call is refused by the same rules.
+/// What a call gives: how many places were read, the run that is written, and the bytes of a report and of a refusal's line, past
+/// which all is as it was. And as a value each call is refused by the same rules, and leaves the same of the job.
 pub fn calls_give<K: Kind>()
     ensures reads { Reads }
     ensures prints { Prints }
     ensures runs { (h : Held) → Runs (λ p. K.means (K.made p)) h }
     ensures refused { CallsRefused (λ p. K.means (K.made p)) }
+    ensures left { CallsLeave (λ p. K.means (K.made p)) }
 {}
 
 /// A report has one line for each place of its set, in ascending order, which names the thread and the number within it; a

@@ -1,4 +1,4 @@
-use Rattle.job.proofs.Giving.{calls_refused, prints, reads, runs}
+use Rattle.job.proofs.Giving.{calls_leave, calls_refused, prints, reads, runs}
 use Rattle.job.proofs.Lawful.{lawful_made}
 use Rattle.job.proofs.laws.calls_give.Goals as goal
 
@@ -13,3 +13,6 @@ returns-clause-runs g c = runs (λ p. g.K.Machine.means (g.K.Kind.made p))
 
 pub returns-clause-refused : goal.returns-clause-refused
 returns-clause-refused g c = calls_refused (λ p. g.K.Machine.means (g.K.Kind.made p)) (lawful_made g.met.K.Machine.lawful g.met.K.Kind.its_own)
+
+pub returns-clause-left : goal.returns-clause-left
+returns-clause-left g c = calls_leave (λ p. g.K.Machine.means (g.K.Kind.made p))
