@@ -2,6 +2,7 @@
 #![tactic(auto)]
 
 mod answer;
+mod laws;
 
 use answer::answer;
 use job::call::Memory;

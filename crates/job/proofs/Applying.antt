@@ -1,5 +1,5 @@
 -- Which refusals apply to a call by their reasons, and what that says by their numbers. Nothing is assumed.
-use Rattle.std.proofs.Common.{◌≡◌, ◌↔◌, ℕ, ◌≤◌, ◌<◌, true, false, List, Some, None, Ok, Err, Result, Contains, refl, ap, sym, subst, ◌∙◌, arith}
+use Rattle.std.proofs.Common.{◌≡◌, ◌↔◌, ℕ, ◌≤◌, ◌<◌, true, false, List, None, Ok, Err, Result, Contains, refl, ap, subst, ◌∙◌, arith}
 use Rattle.listing.specs.declared.program.Program.{Program}
 use Rattle.listing.specs.declared.refusal.Reason.{Reason}
 use Rattle.listing.specs.declared.refusal.Reason.TheVariants.{NoProgram, PlaceMissing, AlreadySo, RunListTooShort, NoPlacement, PlaceNotKept, TooFewRows, NoneEnough, BufferTooShort}
@@ -12,7 +12,7 @@ use Rattle.search.specs.Faults.{FaultRun, KeepsTo, TooMany}
 use Rattle.search.specs.Refusals.{ByLowest, Refused}
 use Rattle.job.specs.Checks.{declined}
 use Rattle.job.specs.Refusals.{BarApplies, FreeApplies, PlainApplies, ReportApplies, LineApplies, SolveApplies, TestApplies, ShowApplies, HasNumber, Holding, Missing, NotKept}
-use Rattle.job.specs.States.{Held, State, open_places}
+use Rattle.job.specs.States.{State, open_places}
 
 -- which refusals apply to a call, each by itself; those that are not named never do
 abbrev pub BarBy : State → ℕ → Reason → Type 0

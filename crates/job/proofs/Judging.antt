@@ -18,7 +18,7 @@ use Rattle.job.specs.Verdicts.{CrossesNone, Verdicts}
 use Rattle.job.proofs.Listed.{has_these}
 
 -- a verdict that is given comes of a set, where the rows suffice
-granted : (o : Option ℕ) (short fit : Bool) (verdict : ℕ → Bool) (b : Bool) → unless_refused ((PlaceMissing, is_none o) ∷ (RunListTooShort, short) ∷ (TooFewRows, not fit) ∷ []) (verdict (unwrap_or o 0)) ≡ Ok b
+pub granted : (o : Option ℕ) (short fit : Bool) (verdict : ℕ → Bool) (b : Bool) → unless_refused ((PlaceMissing, is_none o) ∷ (RunListTooShort, short) ∷ (TooFewRows, not fit) ∷ []) (verdict (unwrap_or o 0)) ≡ Ok b
     → (set : ℕ) × (o ≡ Some set) × (fit ≡ true) × (verdict set ≡ b)
 granted None short fit verdict b e = let no : ⊥ = cc in absurd no
 granted (Some set) true fit verdict b e = let no : ⊥ = cc in absurd no

@@ -66,7 +66,7 @@ value_of ((why, true) ∷ cs) x y e = let no : ⊥ = cc in absurd no
 value_of ((why, false) ∷ cs) x y e = value_of cs x y e
 
 module _ {S : Type 0} (M : Program → Meaning S) where
-  never_enough : (s : State) (q rows run : ℕ) (b : Bool) → show_verdict M s q rows run ≡ Ok b → b ≡ false
+  pub never_enough : (s : State) (q rows run : ℕ) (b : Bool) → show_verdict M s q rows run ≡ Ok b → b ≡ false
   never_enough None q rows run b e = let no : ⊥ = cc in absurd no
   never_enough (Some h) q rows run b e = value_of (show_checks M q rows run h) false b e
 

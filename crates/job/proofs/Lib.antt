@@ -6,6 +6,7 @@ pub mod Calling
 pub mod Changing
 pub mod Deciding
 pub mod Decimal
+pub mod Giving
 pub mod Judging
 pub mod Keeping
 pub mod Lawful

@@ -1,6 +1,5 @@
 -- A report has a line for each place of its set, and numbers are printed in decimal. Nothing is assumed.
-use Rattle.std.proofs.Common.{◌≡◌, ℕ, zero, suc, ◌+◌, ◌-◌, ◌*◌, ◌/◌, ◌%◌, ◌^◌, ◌<◌, ◌≤◌, ◌==◌, Bool, true, false, not, ◌&&◌, List, [], ◌∷◌, ◌++◌, drop, length, codes, cond, Some, None, Option, count_ones, refl, sym, ap, subst, ◌∙◌, ⊎_elim, eq-eqb, leb, arith}
-use Rattle.std.proofs.Math.Seq.{take-append_seam, drop-append_seam, drop-append-add}
+use Rattle.std.proofs.Common.{◌≡◌, ℕ, zero, suc, ◌+◌, ◌-◌, ◌*◌, ◌/◌, ◌%◌, ◌^◌, ◌<◌, ◌≤◌, ◌==◌, Bool, true, false, not, ◌&&◌, List, [], ◌∷◌, length, cond, Some, None, Option, count_ones, refl, sym, ap, subst, ◌∙◌, ⊎_elim, eq-eqb, leb, arith}
 use Rattle.std.proofs.lemmas.Bool.{and_parts, both_ways, cond_both, eqb-true, cases_eq, cases_lt, ne_eqb, lt-leb, le-leb}
 use Rattle.std.proofs.lemmas.Nat.{zero_from_ones}
 use Rattle.std.proofs.lemmas.List.FromFn.{length-range_with_len}
@@ -14,13 +13,13 @@ use Rattle.std.proofs.lemmas.Option.{slice_get_within}
 use Rattle.listing.proofs.Numbering.{places_count}
 use Rattle.listing.proofs.Programs.{few_threads, length_fits}
 use Rattle.listing.specs.Reasons.{number_of}
-use Rattle.listing.specs.Code.{length_of, place_of, places, thread_at}
+use Rattle.listing.specs.Code.{place_of, places, thread_at}
 use Rattle.machines.specs.Places.{has, from_place, lowest, places_in, removing}
-use Rattle.machines.proofs.Masks.{fewer_without, has_low, removing_within}
+use Rattle.machines.proofs.Masks.{fewer_without, removing_within}
 use Rattle.machines.proofs.Sets.{set_laws}
 use Rattle.search.proofs.PlaceLists.{places_rise, place_of as held_place, of_place, no_place, next_place, from_first}
 use Rattle.job.specs.Answers.{solution}
-use Rattle.job.specs.Reports.{Decimal, LaidOver, PlaceLine, PlaceLines, Printing, RefusalLine, Reported}
+use Rattle.job.specs.Reports.{Decimal, PlaceLine, PlaceLines, Printing, RefusalLine, Reported}
 use Rattle.job.specs.Text.{before, befores, decimal, line_of, refusal, report}
 use Rattle.job.proofs.Befores.{befores_first, befores_none}
 use Rattle.job.proofs.Decimal.{single, tenth}
@@ -146,15 +145,5 @@ line_printed e small =
       is = refl;
     }
 
-laid_over : LaidOver
-laid_over before over after text same =
-    ap (λ l. l ++ (text ++ drop (length before + length text) (before ++ (over ++ after)))) (take-append_seam before (over ++ after))
-    ∙ ap (λ l. before ++ (text ++ l)) rest
-  where
-    rest : drop (length before + length text) (before ++ (over ++ after)) ≡ after
-    rest =
-        drop-append-add before (over ++ after) (length text)
-        ∙ (ap (λ n. drop n (over ++ after)) (sym same) ∙ drop-append_seam over after)
-
 pub printing : Printing
-printing = record { over = laid_over; reports = reported; refusals = line_printed }
+printing = record { reports = reported; refusals = line_printed }

@@ -2,6 +2,7 @@ pub mod Answers
 pub mod Calls
 pub mod Changes
 pub mod Checks
+pub mod Gives
 pub mod Histories
 pub mod Lent
 pub mod Loads

@@ -6,7 +6,7 @@ use Rattle.listing.specs.Code.{length_of, place_of, places}
 use Rattle.listing.specs.Reasons.{number_of}
 use Rattle.machines.specs.Places.{has}
 use Rattle.job.specs.Answers.{solution}
-use Rattle.job.specs.Text.{line_of, placed, report}
+use Rattle.job.specs.Text.{line_of, report}
 
 -- the digits write the number; the first of several is not 0
 pub data Decimal : ℕ → List ℕ → Type 0 where
@@ -42,14 +42,8 @@ pub record RefusalLine (e : Refusal) (text : List ℕ) : Type 0 where
   pub lined : Decimal e.line line
   pub is : text ≡ codes "refused " ++ (number ++ (codes " line " ++ (line ++ codes "\n")))
 
--- a text is laid over as many bytes of the buffer, and all other bytes are as they were
-abbrev pub LaidOver : Type 0
-LaidOver = (before over after text : List ℕ) → length over ≡ length text
-    → placed (before ++ (over ++ after)) (length before) text ≡ before ++ (text ++ after)
-
 -- of every set of places of a program, and every refusal; a set is a mask of 32 bits, and a line's number has 16
 pub record Printing : Type 0 where
-  pub over : LaidOver
   pub reports : (p : Program) (set : ℕ) → set < 2 ^ 32 → ((q : ℕ) → has set q ≡ true → q < places p)
       → Reported p set (report p (solution set))
   pub refusals : (e : Refusal) → e.line < 65536 → RefusalLine e (line_of e)

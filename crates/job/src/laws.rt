@@ -2,10 +2,11 @@
 ghost use Rattle.std.specs.Prelude.{◌≡◌};
 ghost use Rattle.job.specs.Changes.{Changes, OpenPlaces, Seen};
 ghost use Rattle.job.specs.Checks.{HasThese};
+ghost use Rattle.job.specs.Gives.{CallsLeave, CallsRefused, Prints, Runs};
 ghost use Rattle.job.specs.Promises.{Always};
 ghost use Rattle.job.specs.Refusals.{InOrder};
 ghost use Rattle.job.specs.Reports.{Printing};
-ghost use Rattle.job.specs.States.{State};
+ghost use Rattle.job.specs.States.{Held, State};
 ghost use Rattle.job.specs.Texts.{ReadsAs};
 ghost use Rattle.job.specs.Verdicts.{MemoryLeft, Verdicts};
 
@@ -43,6 +44,15 @@ pub fn sets_are_their_places()
 /// does.
 pub fn lowest_number_first<K: Kind>()
     ensures { (s : State) → InOrder (λ p. K.means (K.made p)) s }
+{}
+
+/// What a call gives: the run that is written, and the bytes of a report and of a refusal's line, past which all is as it was.
+/// And as a value each call is refused by the same rules, and leaves the same of the job.
+pub fn calls_give<K: Kind>()
+    ensures prints { Prints }
+    ensures runs { (h : Held) → Runs (λ p. K.means (K.made p)) h }
+    ensures refused { CallsRefused (λ p. K.means (K.made p)) }
+    ensures left { CallsLeave (λ p. K.means (K.made p)) }
 {}
 
 /// A report has one line for each place of its set, in ascending order, which names the thread and the number within it; a

@@ -8,6 +8,7 @@ pub mod Exploring
 pub mod Faulting
 pub mod Fitting
 pub mod Frontier
+pub mod Granting
 pub mod Grown
 pub mod Keeping
 pub mod Lists

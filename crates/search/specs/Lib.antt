@@ -3,6 +3,7 @@ pub mod Crossed
 pub mod Enough
 pub mod Explored
 pub mod Faults
+pub mod Granted
 pub mod Laws
 pub mod Least
 pub mod Refusals
