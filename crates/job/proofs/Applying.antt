@@ -73,7 +73,6 @@ pub record ByReason {X : Type 0} (Applies : Reason → Type 0) (r : Result X Ref
   pub refused : (why : Reason) → (r ≡ Err (declined why)) ↔ (Applies why × ((other : Reason) → Applies other → number_of why ≤ number_of other))
   pub granted : ((x : X) × (r ≡ Ok x)) ↔ ((why : Reason) → Applies why → ⊥)
 
-
 -- a rule by reasons and one by numbers say the same
 abbrev Same : (Reason → Type 0) → (ℕ → Type 0) → Type 0
 Same R N = (n : ℕ) → N n ↔ ((why : Reason) × (number_of why ≡ n) × R why)

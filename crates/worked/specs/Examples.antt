@@ -122,7 +122,7 @@ readings =
     -- there is one byte too many
     ∷ row (replicate 4097 32) (refused 1 0 ∷ [])
     -- lines without words count; of two lines that are wrong the first is named
-    ∷ row (codes "bound 1\n\n# c\nthread\nstor a 1\n") (refused 3 5 ∷ [])
+    ∷ row (codes "\n\nbound 1\n\n  # c\nthread\nstor a 1\n") (refused 3 7 ∷ [])
     ∷ row (codes "bound 1\nthread\nstore a 16\nStore a 1\n") (refused 4 3 ∷ [])
     ∷ []
 
@@ -138,7 +138,10 @@ runs =
     ∷ row (codes "bound 2\nthread\nstore a 1\nstore a 2\nload r0 a\nstore a 3\nfault mem a 4\n")
     (present (0 ∷ []) 0 ∷ absent (0 ∷ 0 ∷ 0 ∷ []) 0 ∷ present (0 ∷ 0 ∷ 0 ∷ 1 ∷ []) 0
     ∷ ends (At 0 4 ∷ []) (Holds 0 R0 2 ∷ Memory A 3 ∷ []) ∷ [])
-    -- with the bound 1 so has the second
+    -- what still waits is not seen, however much it is
+    ∷ row (codes "bound 4\nthread\nstore a 1\nstore a 2\nstore a 3\nstore a 4\nfault mem a 5\n")
+    (ends (At 0 4 ∷ []) (Memory A 4 ∷ []) ∷ [])
+    -- with the bound 1 the second has to wait
     ∷ row (codes "bound 1\nthread\nstore a 1\nstore b 1\nfault mem a 2\n")
     (absent (0 ∷ []) 0 ∷ present (0 ∷ 1 ∷ []) 0 ∷ [])
     -- `fence` and `cas` have to wait until no write does; this `cas` succeeds
