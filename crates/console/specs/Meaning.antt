@@ -20,10 +20,12 @@ pub data Refuses (text : List ℕ) (rows : ℕ) : Refusal → Type 0 where
   -- the first thing that is wrong with it
   unread : {e : Refusal} → Wrong text e → Refuses text rows e
   -- more standings are reached, with no fence, than there are rows
-  too_few_rows : {p : Program} → program_of text ≡ Ok p → TooMany (buffered p) rows → Refuses text rows (declined TooFewRows)
+  too_few_rows : {p : Program} → program_of text ≡ Ok p → TooMany (buffered p) rows
+      → Refuses text rows (declined TooFewRows)
   -- some fault run keeps to all places
   none_enough : {p : Program} {ns : List ℕ} → program_of text ≡ Ok p → (TooMany (buffered p) rows → ⊥)
-      → FaultRun p (buffered p) ns → KeepsTo (buffered p) ns (first_places (places p)) → Refuses text rows (declined NoneEnough)
+      → FaultRun p (buffered p) ns → KeepsTo (buffered p) ns (first_places (places p))
+      → Refuses text rows (declined NoneEnough)
 
 -- with so many rows, this is the report of the best set of its program's places
 pub data Solves (text : List ℕ) (rows : ℕ) : List ℕ → Type 0 where
@@ -43,4 +45,5 @@ pub record Tells (text : List ℕ) (rows : ℕ) (old : List ℕ) (answer : Resul
 
 -- of every text, any number of rows and every buffer
 abbrev pub ConsoleTells : Type 0
-ConsoleTells = (text : List ℕ) (rows : ℕ) (out : List ℕ) → let a = answered (report_or_refusal text rows) out in Tells text rows out a.0 a.1
+ConsoleTells = (text : List ℕ) (rows : ℕ) (out : List ℕ)
+    → let a = answered (report_or_refusal text rows) out in Tells text rows out a.0 a.1

@@ -1,4 +1,5 @@
--- What calls give beside what the job then holds: the run that is written, and the bytes of a line or a report; and that a call as a value is refused as the rules of its refusals say.
+-- What calls give beside what the job then holds: the run that is written, and the bytes of a line or a report; and that a call
+-- as a value is refused as the rules of its refusals say, and leaves what that call leaves.
 use Rattle.std.specs.Prelude.{◌≡◌, ◌↔◌, ℕ, List, length, take, drop, Some, Ok, Err, Result}
 use Rattle.listing.specs.declared.program.Program.{Program}
 use Rattle.listing.specs.declared.refusal.Refusal.{Refusal}
@@ -24,7 +25,8 @@ use Rattle.job.specs.States.{Held, State, view_of}
 use Rattle.job.specs.Text.{line_of, report}
 use Rattle.job.specs.Verdicts.{CrossesNone}
 
--- a buffer after an answer: so many bytes as are answered are the text, and those after them are as they were; refused, all are
+-- a buffer after an answer: so many bytes as are answered are the text, and those after them are as they were; where it is
+-- refused, all are
 pub record Writes (text old : List ℕ) (answer : Result ℕ Refusal) (left : List ℕ) : Type 0 where
   pub number : (n : ℕ) → answer ≡ Ok n → n ≡ length text
   pub front : (n : ℕ) → answer ≡ Ok n → take n left ≡ text
@@ -38,8 +40,10 @@ pub record Prints : Type 0 where
   pub none : (s : State) (out : List ℕ) (e : Refusal) → (after_report s out).0 ≡ Err e → (after_report s out).1 ≡ out
   pub line : (e : Refusal) (out : List ℕ) → let a = after_line e out in Writes (line_of e) out a.0 a.1
 
--- a run of so many steps stands in front of the run list: it ends in a fault, keeps to what it should, and passes no standing twice
-pub record GivesRun {S : Type 0} (p : Program) (m : Meaning S) (Keeps : List ℕ → Type 0) (n : ℕ) (left : List ℕ) : Type 0 where
+-- a run of so many steps stands in front of the run list: it ends in a fault, keeps to what it should, and passes no
+-- standing twice
+pub record GivesRun {S : Type 0} (p : Program) (m : Meaning S) (Keeps : List ℕ → Type 0) (n : ℕ) (left : List ℕ)
+    : Type 0 where
   pub steps : List ℕ
   pub fault : FaultRun p m steps
   pub keeps : Keeps steps
@@ -50,13 +54,18 @@ pub record GivesRun {S : Type 0} (p : Program) (m : Meaning S) (Keeps : List ℕ
 module _ {S : Type 0} (M : Program → Meaning S) where
   -- the length of a run is answered only where there is that run
   pub record Runs (h : Held) : Type 0 where
-    pub test : (qs : List ℕ) (old free : Lent S) (n : ℕ) → TestRun M (Some h) qs (rows_lent old.rows old.notes) (length old.run) free.run
-        → let a = after_test M (Some h) qs old free in a.0 ≡ Ok (Some n) → GivesRun h.program (M h.program) (λ ns. CrossesNone (M h.program) ns qs) n a.2.run
-    pub show : (k : Solution) (q : ℕ) (old free : Lent S) (n : ℕ) → h.kept ≡ Some k → ShowRun M (Some h) q (rows_lent old.rows old.notes) (length old.run) free.run
+    pub test : (qs : List ℕ) (old free : Lent S) (n : ℕ)
+        → TestRun M (Some h) qs (rows_lent old.rows old.notes) (length old.run) free.run
+        → let a = after_test M (Some h) qs old free in a.0 ≡ Ok (Some n)
+        → GivesRun h.program (M h.program) (λ ns. CrossesNone (M h.program) ns qs) n a.2.run
+    pub show : (k : Solution) (q : ℕ) (old free : Lent S) (n : ℕ) → h.kept ≡ Some k
+        → ShowRun M (Some h) q (rows_lent old.rows old.notes) (length old.run) free.run
         → let a = after_show M (Some h) q old free in a.0 ≡ Ok n
         → GivesRun h.program (M h.program) (λ ns. KeepsTo (M h.program) ns (removing k.places.mask q)) n a.2.run
-    pub plain : (old free : Lent Picture) (n : ℕ) → PlainRun (Some h) (rows_lent old.rows old.notes) (length old.run) free.run
-        → let a = after_plain M (Some h) old free in a.0 ≡ Ok (Some n) → GivesRun h.program (unbuffered h.program) (λ ns. Unit {0}) n a.2.run
+    pub plain : (old free : Lent Picture) (n : ℕ)
+        → PlainRun (Some h) (rows_lent old.rows old.notes) (length old.run) free.run
+        → let a = after_plain M (Some h) old free in a.0 ≡ Ok (Some n)
+        → GivesRun h.program (unbuffered h.program) (λ ns. Unit {0}) n a.2.run
 
   -- by which refusals a call as a value may be refused, of what it is lent; `look` never is
   abbrev pub RefusedAs : State → Call → Lists S → Result Answer Refusal → Type 0

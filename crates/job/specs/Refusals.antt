@@ -1,4 +1,5 @@
--- Which refusals apply to a call, each said by itself; the call is refused by the lowest number that applies, and granted when none does.
+-- Which refusals apply to a call, each said by itself; the call is refused by the lowest number that applies, and granted when
+-- none does.
 use Rattle.std.specs.Prelude.{◌≡◌, ◌↔◌, ℕ, ◌≤◌, ◌<◌, true, false, List, length, Some, None, Ok, Err, Result, Contains, sum_by}
 use Rattle.listing.specs.declared.program.Program.{Program}
 use Rattle.listing.specs.declared.refusal.Refusal.{Refusal}
@@ -71,7 +72,8 @@ module _ {S : Type 0} (M : Program → Meaning S) where
     no_program : s ≡ None → SolveApplies s rows 8
     too_few_rows : Holding s (λ h. TooMany (M h.program) rows) → SolveApplies s rows 14
     -- some fault run keeps to all open places
-    none_enough : Holding s (λ h. (ns : List ℕ) × FaultRun h.program (M h.program) ns × KeepsTo (M h.program) ns (open_places h))
+    none_enough : Holding s (λ h.
+        (ns : List ℕ) × FaultRun h.program (M h.program) ns × KeepsTo (M h.program) ns (open_places h))
         → SolveApplies s rows 15
 
   -- of `test`

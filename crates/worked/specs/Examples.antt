@@ -174,7 +174,8 @@ solutions =
     (reaches 3 2 ∷ prints 3 [] (codes "fences 0\n")
     ∷ prints 2 [] (codes "refused 14 line 0\n") ∷ prints 0 [] (codes "refused 14 line 0\n") ∷ [])
     -- while a write waits, what is seen is no fault
-    ∷ row (codes "bound 1\nthread\nstore a 1\nfault at 0 1 mem a 0\n") (plainly 512 true ∷ prints 512 [] (codes "fences 0\n") ∷ [])
+    ∷ row (codes "bound 1\nthread\nstore a 1\nfault at 0 1 mem a 0\n")
+    (plainly 512 true ∷ prints 512 [] (codes "fences 0\n") ∷ [])
     -- no fence keeps out a fault that the unbuffered machine has
     ∷ row (codes "bound 1\nthread\nstore a 1\nfault mem a 1\n")
     (plainly 512 false ∷ prints 512 [] (codes "refused 15 line 0\n") ∷ [])
