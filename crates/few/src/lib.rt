@@ -48,7 +48,11 @@ impl<T: Filler, const N: usize> Model for Few<T, N> {
 
 // By hand: where it is derived, it stays open that what the values' own `clone` gives is equal to them.
 impl<T: Filler, const N: usize> Clone for Few<T, N> {
+    ghost use Rattle.std.specs.Prelude.{⊤};
+
     ghost is_clone = { λ old new. new ≡ old };
+
+    ghost is_infallible = { λ _. ⊤ };
 
     fn clone(&self) -> Result<Self, AllocError> {
         Ok(*self)
