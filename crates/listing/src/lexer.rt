@@ -6,7 +6,7 @@ ghost use Rattle.listing.specs.Reading.{refusal};
 ghost use Rattle.listing.specs.Taking.{Comes, left, line_at, size};
 ghost use Rattle.listing.specs.Limits.{all};
 ghost use Rattle.listing.specs.Words.{comments, content_of, ends, is_digit, parts, permitted};
-ghost use Rattle.listing.specs.Cuts.{Tells, after_word, kind, line_of, next_word, past_spaces, rest_of};
+ghost use Rattle.listing.specs.Cuts.{Tells, after_word, kind, line_of, next_word, other, past_spaces, rest_of};
 
 use crate::refusal::{Reason, Refusal};
 
@@ -96,16 +96,11 @@ fn line_end(text: &[u8]) -> Option<usize>
     text.iter().position(|byte| is_line_end(*byte))
 }
 
-fn comment_start(line: &[u8]) -> Option<usize>
-    ensures { result ≡ position comments line.now }
+// The first byte that no word has and no space is.
+fn first_other(line: &[u8]) -> Option<usize>
+    ensures { result ≡ position other line.now }
 {
-    line.iter().position(|byte| is_comment(*byte))
-}
-
-fn all_permitted(bytes: &[u8]) -> bool
-    ensures { result ≡ all permitted bytes.now }
-{
-    bytes.iter().all(|byte| is_permitted(*byte))
+    line.iter().position(|byte| !is_permitted(*byte))
 }
 
 fn word_end(bytes: &[u8]) -> Option<usize>
@@ -150,9 +145,15 @@ pub fn words_of(bytes: &[u8], line: u16) -> Result<Words<'_>, Refusal>
     ensures content { MatchResult result (λ w. (w.line ≡ line) × ((w.rest.now ≡ content_of bytes.now) × (all permitted (content_of bytes.now) ≡ true))) (λ e. Refused ByteNotPermitted line e × (all permitted (content_of bytes.now) ≡ false)) }
     ensures refusal { IfErr result (λ e. e ≡ refusal ByteNotPermitted line) }
 {
-    let rest = &bytes[..comment_start(bytes).unwrap_or(bytes.len())];
-    if all_permitted(rest) {
-        Ok(Words { rest, line })
+    // One search: a byte that may not stand in a line is met no later than the comment, and nothing past it is looked at.
+    let Some(end) = first_other(bytes) else {
+        return Ok(Words { rest: bytes, line });
+    };
+    if is_comment(bytes[end]) {
+        Ok(Words {
+            rest: &bytes[..end],
+            line,
+        })
     } else {
         Err(Reason::ByteNotPermitted.at(line))
     }
@@ -169,7 +170,9 @@ fn token_of(bytes: &[u8], line: u16) -> Token<'_>
 }
 
 impl<'a> Words<'a> {
-    // Takes the first of the words, if any is left. No `Iterator`: nothing goes through all the words of a line.
+    // Takes the first of the words, if any is left. No `Iterator`: nothing goes through all the words of a line. Inlined: each
+    // word of a text is taken by it.
+    #[inline(always)]
     pub fn next(&mut self) -> Option<Token<'a>>
         ensures line { self.new.line ≡ self.old.line }
         ensures word { MatchOption result (next_word self.old.rest.now ≡ []) (λ t. Tells t (next_word self.old.rest.now) self.old.line) }

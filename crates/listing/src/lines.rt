@@ -261,7 +261,8 @@ impl<'a> Words<'a> {
         }
     }
 
-    // The next condition, none where the line ends.
+    // The next condition, none where the line ends. Inlined, as `next` is: words are most of what there is to read.
+    #[inline(always)]
     fn condition(&mut self) -> Result<Option<WrittenCondition<'a>>, Refusal>
         ensures { TookCondition self.old self.new result }
     {

@@ -12,7 +12,7 @@ ghost use Rattle.listing.specs.Values.{instruction_fits};
 
 use crate::code::{FaultLine, Instruction, ThreadCode, together};
 use crate::draft::Draft;
-use crate::lexer::Words;
+use crate::lexer::{Token, Words};
 use crate::lines::{Line, WrittenInstruction, bound, fault_line, instruction};
 use crate::refusal::{Reason, Refusal};
 use few::Few;
@@ -110,11 +110,11 @@ impl Draft {
         self.push_instruction(instruction(written, line)?, line)
     }
 
-    fn add_fault(&mut self, words: Words<'_>) -> Result<(), Refusal>
-        ensures declined { IfErr result (Declined words.entry.line) }
-        ensures adds { Adds (standing (progress_of self.old) words.entry.line (fault_stands (progress_of self.old)) (fault_read words.entry)) self.new result }
+    // The words may stand on another line than the one that is given, which is then told of all but the words.
+    fn add_fault(&mut self, words: Words<'_>, line: u16) -> Result<(), Refusal>
+        ensures declined { words.entry.line ≡ line → IfErr result (Declined line) }
+        ensures adds { words.entry.line ≡ line → Adds (standing (progress_of self.old) line (fault_stands (progress_of self.old)) (fault_read words.entry)) self.new result }
     {
-        let line = words.line;
         if self.bound.is_none() {
             return Err(Reason::NoForm.at(line));
         }
@@ -130,7 +130,7 @@ impl Draft {
             Line::Bound(digits) => self.add_bound(digits, line),
             Line::Thread => self.add_thread(line),
             Line::Instruction(written) => self.add_instruction(written, line),
-            Line::Fault(words) => self.add_fault(words),
+            Line::Fault(words) => self.add_fault(words, line),
         }
     }
 
@@ -143,6 +143,12 @@ impl Draft {
             return Ok(());
         };
         let line = words.line;
+        // The words of a fault line are taken once: by its form they would be taken twice.
+        if let Token::Word { bytes, .. } = first {
+            if let b"fault" = bytes {
+                return self.add_fault(words, line);
+            }
+        }
         self.add(words.form(first)?, line)
     }
 }

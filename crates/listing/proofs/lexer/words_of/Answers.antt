@@ -1,18 +1,16 @@
-use Rattle.std.proofs.Common.{length, refl, ap, ◌∙◌, sym}
-use Rattle.std.specs.Option.{unwrap_or}
-use Rattle.listing.specs.Limits.{all}
-use Rattle.listing.specs.Words.{comments, permitted}
-use Rattle.listing.proofs.Cuts.{cut_before}
+use Rattle.std.proofs.Common.{refl, sym, ◌∙◌}
+use Rattle.listing.proofs.Cuts.{none_other, some_other}
 use Rattle.listing.proofs.lexer.words_of.Goals as goal
 
-pub returns-then-all_permitted-clause-content : goal.returns-then-all_permitted-clause-content
-returns-then-all_permitted-clause-content c =
-    let bs = c.args.bytes.now in
-    let cut = cut_before comments bs c.unwrap_or.result (c.unwrap_or.ensures ∙ ap (λ o. unwrap_or o (length bs)) c.comment_start.ensures) in
-    (refl, (cut, ap (all permitted) (sym cut) ∙ sym c.if-all_permitted.ensures))
+pub returns-in_default-clause-content : goal.returns-in_default-clause-content
+returns-in_default-clause-content c = (refl, none_other c.args.bytes.now (sym c.first_other.ensures ∙ c.in_default.is))
 
-pub returns-else-all_permitted-clause-content : goal.returns-else-all_permitted-clause-content
-returns-else-all_permitted-clause-content c =
-    let bs = c.args.bytes.now in
-    let cut = cut_before comments bs c.unwrap_or.result (c.unwrap_or.ensures ∙ ap (λ o. unwrap_or o (length bs)) c.comment_start.ensures) in
-    (rw c.at.ensures (refl, refl), ap (all permitted) (sym cut) ∙ sym c.if-all_permitted.ensures)
+pub returns-then-is_comment-clause-content : goal.returns-then-is_comment-clause-content
+returns-then-is_comment-clause-content c =
+    let told = some_other c.args.bytes.now c.in-Some.end 0 (sym c.first_other.ensures ∙ c.in-Some.is) in
+    (refl, told.1.0 (sym c.is_comment.ensures ∙ c.if-is_comment.true))
+
+pub returns-else-is_comment-clause-content : goal.returns-else-is_comment-clause-content
+returns-else-is_comment-clause-content c =
+    let told = some_other c.args.bytes.now c.in-Some.end 0 (sym c.first_other.ensures ∙ c.in-Some.is) in
+    (rw c.at.ensures (refl, refl), told.1.1 (sym c.is_comment.ensures ∙ c.if-is_comment.false))
