@@ -15,6 +15,7 @@ pub mod Listed
 pub mod Lowest
 pub mod Needed
 pub mod Ordering
+pub mod Placed
 pub mod Plainly
 pub mod Promising
 pub mod Readings

@@ -1,12 +1,12 @@
 -- How a report and the line of a refusal are printed: words with one space between them, numbers in decimal, byte 10 last.
-use Rattle.std.specs.Prelude.{◌≡◌, ◌↔◌, ℕ, ◌+◌, ◌*◌, ◌^◌, ◌<◌, true, List, [], ◌∷◌, ◌++◌, length, codes, AllPairs, Contains}
+use Rattle.std.specs.Prelude.{◌≡◌, ◌↔◌, ℕ, ◌+◌, ◌*◌, ◌^◌, ◌<◌, ◌≤◌, true, List, [], ◌∷◌, ◌++◌, length, codes, AllPairs, Contains}
 use Rattle.listing.specs.declared.program.Program.{Program}
 use Rattle.listing.specs.declared.refusal.Refusal.{Refusal}
 use Rattle.listing.specs.Code.{length_of, place_of, places}
 use Rattle.listing.specs.Reasons.{number_of}
 use Rattle.machines.specs.Places.{has}
 use Rattle.job.specs.Answers.{solution}
-use Rattle.job.specs.Text.{line_of, report}
+use Rattle.job.specs.Text.{line_of, placed, report}
 
 -- the digits write the number; the first of several is not 0
 pub data Decimal : ℕ → List ℕ → Type 0 where
@@ -47,3 +47,8 @@ pub record Printing : Type 0 where
   pub reports : (p : Program) (set : ℕ) → set < 2 ^ 32 → ((q : ℕ) → has set q ≡ true → q < places p)
       → Reported p set (report p (solution set))
   pub refusals : (e : Refusal) → e.line < 65536 → RefusalLine e (line_of e)
+
+-- texts that are written into a buffer one after the other are one text
+abbrev pub OneText : Type 0
+OneText = (out : List ℕ) (at m : ℕ) (a b : List ℕ) → m ≡ at + length a → m + length b ≤ length out
+    → placed (placed out at a) m b ≡ placed out at (a ++ b)

@@ -5,7 +5,7 @@ ghost use Rattle.job.specs.Checks.{HasThese};
 ghost use Rattle.job.specs.Gives.{CallsLeave, CallsRefused, Prints, Runs};
 ghost use Rattle.job.specs.Promises.{Always};
 ghost use Rattle.job.specs.Refusals.{InOrder};
-ghost use Rattle.job.specs.Reports.{Printing};
+ghost use Rattle.job.specs.Reports.{OneText, Printing};
 ghost use Rattle.job.specs.States.{Held, State};
 ghost use Rattle.job.specs.Texts.{ReadsAs};
 ghost use Rattle.job.specs.Verdicts.{MemoryLeft, Verdicts};
@@ -56,7 +56,9 @@ pub fn calls_give<K: Kind>()
 {}
 
 /// A report has one line for each place of its set, in ascending order, which names the thread and the number within it; a
-/// refusal's line has its number and its line. Numbers are in decimal, with no leading zero.
+/// refusal's line has its number and its line. Numbers are in decimal, with no leading zero. And what is written into a buffer one
+/// after the other is one text.
 pub fn lines_are_printed()
-    ensures { Printing }
+    ensures printing { Printing }
+    ensures one_text { OneText }
 {}
