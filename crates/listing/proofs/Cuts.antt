@@ -10,7 +10,7 @@ use Rattle.std.proofs.Math.Seq.{drop-cons}
 use Rattle.listing.specs.Limits.{all}
 use Rattle.std.proofs.lemmas.List.Sums.{prefix_len-le-length}
 use Rattle.listing.specs.Words.{upto, parts, ends, comments, content_of, permitted}
-use Rattle.listing.specs.Cuts.{onward, other, past_spaces, next_word, after_word, line_of, rest_of}
+use Rattle.listing.specs.Cuts.{onward, unpermitted, past_spaces, next_word, after_word, line_of, rest_of}
 
 module _ (stop : ℕ → Bool) where
   pub upto_is : (bs : List ℕ) → take (position_or_len stop bs) bs ≡ upto stop bs
@@ -71,7 +71,7 @@ cut_word bs cs q m w r past to end front back =
     let found : m ≡ unwrap_or (position parts cs) (length cs) = end ∙ ap (λ p. unwrap_or p (length cs)) to in
     (front ∙ (cut_before parts cs m found ∙ ap (upto parts) past), back ∙ (cut_after parts cs m found ∙ ap (onward parts) past))
 
--- where a line is first cut by a byte that no word has: the comment begins there, or the line ends; or such a byte stands before the comment
+-- the first byte of a line that is neither of a word nor a space: the comment begins there, or it stands where no such byte may
 apart : (b : ℕ) → permitted b ≡ true → comments b ≡ false
 apart b h = by (comments b) refl
   where
@@ -80,13 +80,13 @@ apart b h = by (comments b) refl
     by false e = refl
 
 abbrev Good : List ℕ → Type 0
-Good bs = (upto other bs ≡ content_of bs) × (all permitted (content_of bs) ≡ true)
+Good bs = (upto unpermitted bs ≡ content_of bs) × (all permitted (content_of bs) ≡ true)
 
 abbrev Cut : List ℕ → List ℕ → Type 0
 Cut [] bs = Good bs
 Cut (b ∷ cs) bs = (comments b ≡ true → Good bs) × (comments b ≡ false → all permitted (content_of bs) ≡ false)
 
-cut : (bs : List ℕ) → Cut (onward other bs) bs
+cut : (bs : List ℕ) → Cut (onward unpermitted bs) bs
 cut [] = (refl, refl)
 cut (b ∷ bs) = by (permitted b) refl (cut bs)
   where
@@ -94,22 +94,22 @@ cut (b ∷ bs) = by (permitted b) refl (cut bs)
     more [] h g = rw (apart b h, h) (ap (λ xs. b ∷ xs) g.0, g.1)
     more (c ∷ cs) h g = rw (apart b h, h) (λ e. let q = g.0 e in (ap (λ xs. b ∷ xs) q.0, q.1), g.1)
 
-    by : (t : Bool) → permitted b ≡ t → Cut (onward other bs) bs → Cut (onward other (b ∷ bs)) (b ∷ bs)
-    by true h g = rw h (more (onward other bs) h g)
+    by : (t : Bool) → permitted b ≡ t → Cut (onward unpermitted bs) bs → Cut (onward unpermitted (b ∷ bs)) (b ∷ bs)
+    by true h g = rw h (more (onward unpermitted bs) h g)
     by false h g = rw h (λ e. rw (e, h) (refl, refl), λ e. rw e (rw h refl))
 
-pub none_other : (bs : List ℕ) → position other bs ≡ None → (bs ≡ content_of bs) × (all permitted (content_of bs) ≡ true)
-none_other bs none =
-    let e : length bs ≡ unwrap_or (position other bs) (length bs) = sym (ap (λ o. unwrap_or o (length bs)) none) in
-    let nothing : onward other bs ≡ [] = sym (cut_after other bs (length bs) e) ∙ drop_all (length bs) bs (omega arith) in
+pub none_unpermitted : (bs : List ℕ) → position unpermitted bs ≡ None → (bs ≡ content_of bs) × (all permitted (content_of bs) ≡ true)
+none_unpermitted bs none =
+    let e : length bs ≡ unwrap_or (position unpermitted bs) (length bs) = sym (ap (λ o. unwrap_or o (length bs)) none) in
+    let nothing : onward unpermitted bs ≡ [] = sym (cut_after unpermitted bs (length bs) e) ∙ drop_all (length bs) bs (omega arith) in
     let g : Good bs = subst (λ cs. Cut cs bs) nothing (cut bs) in
-    (sym (take_all (length bs) bs (omega arith)) ∙ (cut_before other bs (length bs) e ∙ g.0), g.1)
+    (sym (take_all (length bs) bs (omega arith)) ∙ (cut_before unpermitted bs (length bs) e ∙ g.0), g.1)
 
-pub some_other : (bs : List ℕ) (n d : ℕ) → position other bs ≡ Some n
+pub some_unpermitted : (bs : List ℕ) (n d : ℕ) → position unpermitted bs ≡ Some n
     → (n < length bs) × ((comments (get_or bs n d) ≡ true → (take n bs ≡ content_of bs) × (all permitted (content_of bs) ≡ true)) × (comments (get_or bs n d) ≡ false → all permitted (content_of bs) ≡ false))
-some_other bs n d at =
-    let e : n ≡ unwrap_or (position other bs) (length bs) = sym (ap (λ o. unwrap_or o (length bs)) at) in
-    let within = (position-Some other bs n d at).0 in
-    let begins : onward other bs ≡ get_or bs n d ∷ drop (n + 1) bs = sym (cut_after other bs n e) ∙ (drop-cons bs n d within ∙ ap (λ k. get_or bs n d ∷ drop k bs) {x = suc n} {y = n + 1} (omega arith)) in
+some_unpermitted bs n d at =
+    let e : n ≡ unwrap_or (position unpermitted bs) (length bs) = sym (ap (λ o. unwrap_or o (length bs)) at) in
+    let within = (position-Some unpermitted bs n d at).0 in
+    let begins : onward unpermitted bs ≡ get_or bs n d ∷ drop (n + 1) bs = sym (cut_after unpermitted bs n e) ∙ (drop-cons bs n d within ∙ ap (λ k. get_or bs n d ∷ drop k bs) {x = suc n} {y = n + 1} (omega arith)) in
     let g : Cut (get_or bs n d ∷ drop (n + 1) bs) bs = subst (λ cs. Cut cs bs) begins (cut bs) in
-    (within, (λ c. let q = g.0 c in (cut_before other bs n e ∙ q.0, q.1), g.1))
+    (within, (λ c. let q = g.0 c in (cut_before unpermitted bs n e ∙ q.0, q.1), g.1))

@@ -1,6 +1,6 @@
 -- What cutting a text into its lines, and a line into its words one by one, promises.
 --   kind b             what a byte is: a letter, a digit, a space, a line end, a comment sign, or another
---   other b            b is neither of a word nor a space
+--   unpermitted b      b is neither of a word nor a space
 --   onward stop bs     bs from its first byte that stops on
 --   line_of text       the first line of a text
 --   rest_of text       what follows its line end
@@ -19,8 +19,8 @@ use Rattle.listing.specs.Words.{upto, ends, parts, comments, is_letter, is_digit
 abbrev pub kind : ℕ → Kind
 kind b = cond (is_letter b) Letter (cond (is_digit b) Digit (cond (parts b) Space (cond (ends b) LineEnd (cond (comments b) Comment Other))))
 
-abbrev pub other : ℕ → Bool
-other b = not (permitted b)
+abbrev pub unpermitted : ℕ → Bool
+unpermitted b = not (permitted b)
 
 abbrev pub onward : (ℕ → Bool) → List ℕ → List ℕ
 onward stop [] = []

@@ -6,7 +6,7 @@ ghost use Rattle.listing.specs.Reading.{refusal};
 ghost use Rattle.listing.specs.Taking.{Comes, left, line_at, size};
 ghost use Rattle.listing.specs.Limits.{all};
 ghost use Rattle.listing.specs.Words.{comments, content_of, ends, is_digit, parts, permitted};
-ghost use Rattle.listing.specs.Cuts.{Tells, after_word, kind, line_of, next_word, other, past_spaces, rest_of};
+ghost use Rattle.listing.specs.Cuts.{Tells, after_word, kind, line_of, next_word, past_spaces, rest_of, unpermitted};
 
 use crate::refusal::{Reason, Refusal};
 
@@ -96,9 +96,9 @@ fn line_end(text: &[u8]) -> Option<usize>
     text.iter().position(|byte| is_line_end(*byte))
 }
 
-// The first byte that no word has and no space is.
-fn first_other(line: &[u8]) -> Option<usize>
-    ensures { result ≡ position other line.now }
+// The first byte that is neither of a word nor a space.
+fn first_unpermitted(line: &[u8]) -> Option<usize>
+    ensures { result ≡ position unpermitted line.now }
 {
     line.iter().position(|byte| !is_permitted(*byte))
 }
@@ -146,7 +146,7 @@ pub fn words_of(bytes: &[u8], line: u16) -> Result<Words<'_>, Refusal>
     ensures refusal { IfErr result (λ e. e ≡ refusal ByteNotPermitted line) }
 {
     // One search: a byte that may not stand in a line is met no later than the comment, and nothing past it is looked at.
-    let Some(end) = first_other(bytes) else {
+    let Some(end) = first_unpermitted(bytes) else {
         return Ok(Words { rest: bytes, line });
     };
     if is_comment(bytes[end]) {

@@ -110,7 +110,7 @@ impl Draft {
         self.push_instruction(instruction(written, line)?, line)
     }
 
-    // The words may stand on another line than the one that is given, which is then told of all but the words.
+    // Refusals tell the line that is given; what is wrong with the words themselves is told by the line that they stand on.
     fn add_fault(&mut self, words: Words<'_>, line: u16) -> Result<(), Refusal>
         ensures declined { words.entry.line ≡ line → IfErr result (Declined line) }
         ensures adds { words.entry.line ≡ line → Adds (standing (progress_of self.old) line (fault_stands (progress_of self.old)) (fault_read words.entry)) self.new result }
